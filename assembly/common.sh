@@ -44,13 +44,13 @@ prove_into() {
 # write_text OBJECT FOLDER NAME TITLE [TAG]: renames the object's functions to the source's names, and writes the source
 # to FOLDER/NAME.s. If GNU as makes the same object from it, the sums of that object go to FOLDER/NAME.sums.
 write_text() {
-    local object=$1 file=$2/$3 title=$4 same=$assembly/same_bytes.py
+    local object=$1 file=$2/$3 title=$4 same=$assembly/same-bytes
     shift 4
     python3 -B "$assembly/.." assembly.names names "$object" "$@" || fail "the functions of $object got no names"
     python3 -B "$assembly/.." assembly.text text "$object" "$title" "$@" > "$file.s" || fail "$file.s was not written"
     "${tools}as" "$file.s" -o "$workdir/text.o" || fail "$file.s was not assembled"
-    python3 -B "$same" "$object" "$workdir/text.o" >&2 || fail "$file.s is not the text of $object"
-    python3 -B "$same" --sums "$workdir/text.o" > "$file.sums" || fail "$file.sums was not written"
+    "$same" "$object" "$workdir/text.o" >&2 || fail "$file.s is not the text of $object"
+    "$same" --sums "$workdir/text.o" > "$file.sums" || fail "$file.sums was not written"
 }
 
 # settle MADE COMMITTED UPDATE: prints which generated files differ from the committed ones. If UPDATE isn't empty it

@@ -40,14 +40,14 @@ class Table:
         places = {symbol.name: (object_.heads[symbol.section].name, symbol.value) for symbol in object_.symbols
                   if symbol.section and symbol.info >> 4}
         while at < len(self.data):
-            size, kind = struct.unpack_from('<II', self.data, at)
-            if kind:
+            size, pointer = struct.unpack_from('<II', self.data, at)
+            if pointer:
                 relocation, name, offset, add = leads.pop(at + 8)
                 section, offset = places.get(name, (name, offset))
                 length, = struct.unpack_from('<I', self.data, at + 12)
                 if (relocation, offset, add, length) != (self.distance, 0, 0, sizes[section]) or section in self.functions:
                     raise ValueError(f'.eh_frame has at {at:#x} another place than a whole section')
-                self.functions[section] = self.function(at, at + 4 - kind, at + 4 + size)
+                self.functions[section] = self.function(at, at + 4 - pointer, at + 4 + size)
             else:
                 self.heads[at] = self.head(at, at + 4 + size)
             at += 4 + size
@@ -74,16 +74,16 @@ class Table:
 
     def followed(self, at, end, code, units, frame, entry):
         """The frames of a sequence of directives, from the entry's on."""
-        place, (depth, saved), rows = 0, frame, []
+        place, (depth, saved), records = 0, frame, []
         while at < end:
-            rows = [row for row in rows if row[0] != place] + [(place, (depth, dict(saved)))]
-            kind, low, at = self.data[at] & 0xc0, self.data[at] & 0x3f, at + 1
-            if kind == ADVANCE:
+            records = [record for record in records if record[0] != place] + [(place, (depth, dict(saved)))]
+            opcode, low, at = self.data[at] & 0xc0, self.data[at] & 0x3f, at + 1
+            if opcode == ADVANCE:
                 place += low * code
-            elif kind == OFFSET:
+            elif opcode == OFFSET:
                 value, at = number(self.data, at)
                 saved[low] = value * units
-            elif kind == RESTORE:
+            elif opcode == RESTORE:
                 saved.pop(low, None)
                 saved.update({low: entry[low]} if low in entry else {})
             elif low in WIDE_ADVANCES:
@@ -103,13 +103,13 @@ class Table:
                 saved.pop(name, None)
             elif low != NOTHING:
                 raise ValueError(f'.eh_frame has a directive {low:#x}, which is not read here')
-        rows = [row for row in rows if row[0] != place] + [(place, (depth, dict(saved)))]
-        return rows, at
+        records = [record for record in records if record[0] != place] + [(place, (depth, dict(saved)))]
+        return records, at
 
     def sorted_frames(self):
         """Each function and its frames, sorted."""
-        return [(name, [(place, depth, sorted(saved.items())) for place, (depth, saved) in rows])
-                for name, rows in sorted(self.functions.items())]
+        return [(name, [(place, depth, sorted(saved.items())) for place, (depth, saved) in records])
+                for name, records in sorted(self.functions.items())]
 
     def at(self, section, place):
         return [frame for begin, frame in self.functions[section] if begin <= place][-1]

@@ -1,9 +1,8 @@
-#!/usr/bin/env python3
 """Compares objects as a linker sees them. To trust the assembly source, read this program and eh_frame.py:
 
-    assembly/same_bytes.py PROVED OURS             compares an object with the proved one
-    assembly/same_bytes.py --sums OBJECT           prints a sum for each part of an object
-    assembly/same_bytes.py --against SUMS OBJECT   compares an object with such sums
+    assembly/same-bytes PROVED OURS             compares an object with the proved one
+    assembly/same-bytes --sums OBJECT           prints a sum for each part of an object
+    assembly/same-bytes --against SUMS OBJECT   compares an object with such sums
 
 The parts of an object are its loaded sections, `names`, `notes` and `frames`.
 
@@ -25,7 +24,7 @@ import struct
 import sys
 from collections import namedtuple
 
-from eh_frame import Table
+from assembly.eh_frame import Table
 
 Head = namedtuple('Head', 'name kind flags address offset size link info align entry')
 Symbol = namedtuple('Symbol', 'name info other section value size')
@@ -87,21 +86,21 @@ class Object:
             if head.kind in (RELA, REL) and self.heads[head.info] is section:
                 if head.kind == REL:
                     raise ValueError(f'{section.name} has relocations of a kind that is not read here')
-                found += [self.relocation(*row) for row in struct.iter_unpack('<QQq', self.body(head))]
+                found += [self.relocation(*record) for record in struct.iter_unpack('<QQq', self.body(head))]
         return sorted(found)
 
     def relocation(self, offset, info, add):
-        symbol, kind = self.symbols[info >> 32], info & 0xffffffff
+        symbol, r_type = self.symbols[info >> 32], info & 0xffffffff
         if is_global(symbol):
-            return offset, kind, symbol.name, 0, add
-        if self.machine == X86_64 and kind == PLT32:
-            kind = PC32
+            return offset, r_type, symbol.name, 0, add
+        if self.machine == X86_64 and r_type == PLT32:
+            r_type = PC32
         section = self.heads[symbol.section]
         name = section.name if symbol.info & 15 in PLAIN else f'{section.name} by a symbol of kind {symbol.info & 15}'
         # The addend of a mergeable section itself is an offset in it.
         if section.flags & MERGED and symbol.info & 15 != SECTION:
-            return offset, kind, name, symbol.value, add
-        return offset, kind, name, symbol.value + add, 0
+            return offset, r_type, name, symbol.value, add
+        return offset, r_type, name, symbol.value + add, 0
 
     def parts(self):
         found = {}
@@ -129,13 +128,13 @@ class Object:
         defined = sorted((symbol.name, self.place(symbol), symbol.size, symbol.info, symbol.other)
                          for symbol in self.symbols if is_global(symbol) and symbol.section)
         # LLVM also names the linker's table if nothing refers to it.
-        wanted = sorted((symbol.name, symbol.info, symbol.other) for symbol in self.symbols
-                        if is_global(symbol) and not symbol.section and symbol.name != '_GLOBAL_OFFSET_TABLE_')
+        undefined = sorted((symbol.name, symbol.info, symbol.other) for symbol in self.symbols
+                           if is_global(symbol) and not symbol.section and symbol.name != '_GLOBAL_OFFSET_TABLE_')
         for_linker = [head.name for head in self.heads if not head.flags & LOADED
                       and head.kind not in (NONE, SYMTAB, STRTAB, RELA, REL) and head.name not in WITHOUT_MEANING]
         stack = [head.flags & EXECUTED for head in self.heads if head.name == '.note.GNU-stack']
         return Part((self.machine, self.flags, self.data[6:9], sections), b'',
-                    [*defined, *wanted, *for_linker, f'the stack may be executed: {stack != [0]}'])
+                    [*defined, *undefined, *for_linker, f'the stack may be executed: {stack != [0]}'])
 
 
 def is_global(symbol):
@@ -146,9 +145,9 @@ def notes_of(data, align):
     """Each note: its kind and its name, and its content."""
     at = 0
     while at < len(data):
-        name, size, kind = struct.unpack_from('<III', data, at)
+        name, size, note_type = struct.unpack_from('<III', data, at)
         begin = at + 12 + (name + 3 & -4)
-        yield (kind, data[at + 12:at + 12 + name]), data[begin:begin + size]
+        yield (note_type, data[at + 12:at + 12 + name]), data[begin:begin + size]
         at = begin + (size + align - 1 & -align)
 
 
@@ -156,8 +155,8 @@ def properties_of(content):
     """Each property of 64-bit ELF: its kind and its value."""
     at = 0
     while at < len(content):
-        kind, size = struct.unpack_from('<II', content, at)
-        if kind not in USED:
+        property_type, size = struct.unpack_from('<II', content, at)
+        if property_type not in USED:
             yield content[at:at + 8 + size]
         at += 8 + (size + 7 & -8)
 
@@ -180,18 +179,18 @@ def difference(proved, ours):
         at = next((at for at, (a, b) in enumerate(zip(proved.body, ours.body)) if a != b), 'the end')
         where = at if at == 'the end' else f'{at:#x}: {proved.body[at:at + 8].hex()}, ours {ours.body[at:at + 8].hex()}'
         return f'other bytes, from {where}'
-    lost, found = ([row for row in a if row not in b] for a, b in ((proved.relocations, ours.relocations),
-                                                                   (ours.relocations, proved.relocations)))
+    lost, found = ([record for record in a if record not in b] for a, b in ((proved.relocations, ours.relocations),
+                                                                            (ours.relocations, proved.relocations)))
     return f'proved has {lost[:2]}, ours {found[:2]}'
 
 
-def differences(proved, ours, told):
-    """Yields a line for each part that is in only one object, or differs; `told` describes the difference."""
+def differences(proved, ours, describe):
+    """Yields a line for each part that is in only one object, or differs; `describe` describes the difference."""
     for name in {**proved, **ours}:
         if name not in ours or name not in proved:
             yield f'{name}: only in {"what is proved" if name in proved else "ours"}'
         elif proved[name] != ours[name]:
-            yield f'{name}: {told(proved[name], ours[name])}'
+            yield f'{name}: {describe(proved[name], ours[name])}'
 
 
 def compare(proved, ours):
@@ -204,28 +203,28 @@ def compare_sums(path, ours):
     return list(differences(read_sums(path), sums(Object(ours)), lambda *_: 'other than what was proved'))
 
 
-def main(words):
-    if len(words) == 2 and words[0] == '--sums':
-        for name, total in sums(Object(words[1])).items():
+def run(args):
+    if len(args) == 2 and args[0] == '--sums':
+        for name, total in sums(Object(args[1])).items():
             print(f'{total}  {name}')
         return 0
-    if len(words) == 3 and words[0] == '--against':
-        found = compare_sums(*words[1:])
-    elif len(words) == 2:
-        found = compare(*words)
+    if len(args) == 3 and args[0] == '--against':
+        found = compare_sums(*args[1:])
+    elif len(args) == 2:
+        found = compare(*args)
     else:
         print(__doc__, file=sys.stderr)
         return 2
     print(*found, sep='\n', end='\n' if found else '')
-    parts = Object(words[-1]).parts()
+    parts = Object(args[-1]).parts()
     size = sum(len(part.body) for part in parts.values())
     print(f'differ: {len(found)} parts' if found else f'same: {len(parts) - 1} sections, {size} bytes')
     return 1 if found else 0
 
 
-if __name__ == '__main__':
+def main():
     try:
-        sys.exit(main(sys.argv[1:]))
+        return run(sys.argv[1:])
     except (OSError, ValueError, LookupError, struct.error) as fault:
-        print(f'same_bytes.py: {fault}', file=sys.stderr)
-        sys.exit(2)
+        print(f'same-bytes: {fault}', file=sys.stderr)
+        return 2

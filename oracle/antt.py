@@ -84,21 +84,21 @@ def tokens(text):
 class Reader:
     """Parses an expression to a tree of tuples. Leaves and operators have the token's index."""
 
-    def __init__(self, words):
-        self.words, self.at = words, 0
+    def __init__(self, token_list):
+        self.tokens, self.at = token_list, 0
 
     def peek(self):
-        return self.words[self.at] if self.at < len(self.words) else None
+        return self.tokens[self.at] if self.at < len(self.tokens) else None
 
     def next(self):
         self.at += 1
-        if self.at > len(self.words):
+        if self.at > len(self.tokens):
             raise Unreadable("the text ends early")
-        return self.words[self.at - 1]
+        return self.tokens[self.at - 1]
 
     def expect(self, word):
         if self.next() != word:
-            raise Unreadable(f"no {word} at {' '.join(self.words[max(0, self.at - 4):self.at + 3])}")
+            raise Unreadable(f"no {word} at {' '.join(self.tokens[max(0, self.at - 4):self.at + 3])}")
 
     def expression(self):
         word = self.peek()
@@ -131,9 +131,9 @@ class Reader:
     def level(self, n):
         if n == len(LEVELS):
             return self.application()
-        words, to_the_right = LEVELS[n]
+        operators, to_the_right = LEVELS[n]
         left = self.level(n + 1)
-        while self.peek() in words:
+        while self.peek() in operators:
             at, word = self.at, self.next()
             if self.peek() in ("let", "λ", "if"):
                 right = self.expression()
@@ -159,7 +159,7 @@ class Reader:
         if re.fullmatch(r"0x[0-9a-fA-F]+|[0-9]+", word):
             return "number", int(word, 0), at
         if word in ENDS or word in ("let", "λ", "if", ".", "?", "_", "→", ":"):
-            raise Unreadable(f"{word} at {' '.join(self.words[max(0, self.at - 4):self.at + 3])}")
+            raise Unreadable(f"{word} at {' '.join(self.tokens[max(0, self.at - 4):self.at + 3])}")
         return "name", word, at
 
 
@@ -167,8 +167,8 @@ class Definition:
     """A definition of a file: its type as written, whether it must be unfolded by name, and its clauses, each as tokens
     of the patterns and of the right-hand side."""
 
-    def __init__(self, module, name, type_words, is_unfoldable):
-        self.module, self.name, self.type_words, self.is_unfoldable = module, name, type_words, is_unfoldable
+    def __init__(self, module, name, type_tokens, is_unfoldable):
+        self.module, self.name, self.type_tokens, self.is_unfoldable = module, name, type_tokens, is_unfoldable
         self.clauses = []
 
     def __repr__(self):
@@ -179,15 +179,15 @@ class Definition:
 
     def patterns(self, number):
         """Returns the patterns of a clause: ("name", n), ("zero",), ("suc", n) or ("constructor", n)."""
-        words, out, at = [word for word, _ in self.clauses[number][0]], [], 0
-        while at < len(words):
-            if words[at] == "(":
-                if words[at + 1] != "suc" or words[at + 3] != ")":
+        token_list, out, at = [word for word, _ in self.clauses[number][0]], [], 0
+        while at < len(token_list):
+            if token_list[at] == "(":
+                if token_list[at + 1] != "suc" or token_list[at + 3] != ")":
                     raise Unreadable(f"the pattern of {self}")
-                out.append(("suc", words[at + 2]))
+                out.append(("suc", token_list[at + 2]))
                 at += 4
                 continue
-            word = words[at]
+            word = token_list[at]
             out.append(("zero",) if word == "zero" else ("constructor", word) if word[0].isupper() else ("name", word))
             at += 1
         return out
@@ -204,25 +204,25 @@ class Module:
         for start, end in zip(starts, starts[1:]):
             self.block([(word, at + start) for word, at in tokens(self.text[start:end])])
 
-    def block(self, words):
-        first, second = words[0][0], words[1][0] if len(words) > 1 else ""
+    def block(self, token_list):
+        first, second = token_list[0][0], token_list[1][0] if len(token_list) > 1 else ""
         if "use" in (first, second):
-            self.imports(" ".join(word for word, _ in words).split("use ", 1)[1])
+            self.imports(" ".join(word for word, _ in token_list).split("use ", 1)[1])
         elif "mod" in (first, second):
             pass
         elif "data" in (first, second):
-            names = [word for word, _ in words]
+            names = [word for word, _ in token_list]
             data = names[names.index("data") + 1]
             for before, colon in zip(names[names.index("where"):], names[names.index("where") + 1:]):
                 if colon == ":":
                     self.constructors[before] = data
         elif first in ("abbrev", "unfoldable", "record", "pub") or second == ":":
-            names = [word for word, _ in words if word not in ("abbrev", "unfoldable", "pub", "record")]
+            names = [word for word, _ in token_list if word not in ("abbrev", "unfoldable", "pub", "record")]
             self.definitions[names[0]] = Definition(self, names[0], names[2:], first == "unfoldable")
         elif first in self.definitions:
-            for k, (word, _) in enumerate(words):
+            for k, (word, _) in enumerate(token_list):
                 if word == "=":
-                    self.definitions[first].clauses.append((words[1:k], words[k + 1:]))
+                    self.definitions[first].clauses.append((token_list[1:k], token_list[k + 1:]))
                     break
 
     def imports(self, text):
@@ -233,9 +233,9 @@ class Module:
         if names is None:
             self.modules[other or path.split(".")[-1]] = path
         for name in (names or "").split(","):
-            words = name.split()
-            if words:
-                self.names[words[-1]] = path, words[0]
+            parts = name.split()
+            if parts:
+                self.names[parts[-1]] = path, parts[0]
 
 
 class Definitions:
@@ -320,7 +320,7 @@ class Program:
         """Returns the Python code of a definition, with these right-hand sides of the clauses."""
         name, arity = self.ids[definition], definition.arity()
         lines = [f"def {name}({', '.join(f'a{k}' for k in range(arity))}):"]
-        for number, words in enumerate(sides):
+        for number, side in enumerate(sides):
             tests, sets, local = [], [], {}
             for k, pattern in enumerate(definition.patterns(number)):
                 if pattern[0] == "zero":
@@ -333,34 +333,34 @@ class Program:
                     sets.append(f"p{k} = a{k} - 1")
                 else:
                     local[pattern[1]] = f"a{k}"
-            reader = Reader(words)
+            reader = Reader(side)
             tree = reader.expression()
-            if reader.at != len(words):
-                raise Unreadable(f"{words[reader.at]} in {definition}")
+            if reader.at != len(side):
+                raise Unreadable(f"{side[reader.at]} in {definition}")
             lines += [f"  if {' and '.join(tests) or 'True'}:"] + [f"    {s}" for s in sets]
             lines.append(f"    return {self.text(tree, definition.module, local)}")
         return "\n".join(lines)
 
     def text(self, tree, module, local):
-        kind = tree[0]
-        if kind == "number":
+        form = tree[0]
+        if form == "number":
             return str(tree[1])
-        if kind == "nil":
+        if form == "nil":
             return "()"
-        if kind == "name":
+        if form == "name":
             return self.value(tree[1], module, local)
-        if kind == "let":
+        if form == "let":
             inner = f"v{len(local)}"
             return (f"(lambda {inner}: {self.text(tree[3], module, {**local, tree[1]: inner})})"
                     f"({self.text(tree[2], module, local)})")
-        if kind == "lambda":
+        if form == "lambda":
             names = [f"v{len(local) + k}" for k in range(len(tree[1]))]
             body = self.text(tree[2], module, {**local, **dict(zip(tree[1], names))})
             return f"Function({len(names)}, lambda {', '.join(names)}: {body})"
-        if kind == "if":
+        if form == "if":
             test, yes, no = (self.text(part, module, local) for part in tree[1:])
             return f"({yes} if {test} else {no})"
-        if kind == "operator":
+        if form == "operator":
             left, right = self.text(tree[2], module, local), self.text(tree[3], module, local)
             if tree[1] in "+*":
                 return f"({left} {tree[1]} {right})"
@@ -404,10 +404,10 @@ class Program:
     def compiled(self, definition, changed):
         if definition in changed:
             return compile(self.python(definition, changed[definition]), str(definition), "exec")
-        kept = self.__dict__.setdefault("kept", {})
-        if definition not in kept:
-            kept[definition] = compile(self.code[definition], str(definition), "exec")
-        return kept[definition]
+        cached = self.__dict__.setdefault("cached", {})
+        if definition not in cached:
+            cached[definition] = compile(self.code[definition], str(definition), "exec")
+        return cached[definition]
 
 
 def remembered(function):

@@ -2,9 +2,9 @@
 import os
 import sys
 
-import antt
-import table
-from reasons import Reasons
+from oracle import antt
+from oracle import table
+from oracle.reasons import Reasons
 
 OTHERS = {word: [other for other in "+ - * / %".split() if other != word] for word in "+ - * / %".split()}
 OTHERS["^"] = ["*"]
@@ -17,9 +17,9 @@ class Change:
     other processes."""
 
     def __init__(self, definition, clause, place, word):
-        words = [w for w, _ in definition.clauses[clause][1]]
+        names = [w for w, _ in definition.clauses[clause][1]]
         self.path, self.name, self.clause, self.place, self.word = definition.module.path, definition.name, clause, place, word
-        marked = words[:place] + [f"[{words[place]} -> {word}]"] + words[place + 1:]
+        marked = names[:place] + [f"[{names[place]} -> {word}]"] + names[place + 1:]
         line = definition.module.text.count("\n", 0, definition.clauses[clause][1][place][1]) + 1
         file = definition.module.path.replace("Rattle.", "").replace(".", "/") + ".antt"
         near = " ".join(marked[max(0, place - 8):place + 9])
@@ -29,7 +29,7 @@ class Change:
 def types_of(definition):
     """Returns the types of a definition's arguments, as written."""
     parts, depth, part = [], 0, []
-    for word in definition.type_words:
+    for word in definition.type_tokens:
         depth += (word == "(") - (word == ")")
         if word == "→" and depth == 0:
             parts.append(" ".join(part))
@@ -51,8 +51,8 @@ def reachable(program):
     """Maps each definition to everything that it reaches."""
     direct = {}
     for definition in program.order:
-        words = {word for _, right in definition.clauses for word, _ in right}
-        meanings = {meaning_of(program, definition.module, word) for word in words}
+        names = {word for _, right in definition.clauses for word, _ in right}
+        meanings = {meaning_of(program, definition.module, word) for word in names}
         direct[definition] = {meaning for meaning in meanings if isinstance(meaning, antt.Definition)}
     reached = {}
     for definition in program.order:
@@ -84,12 +84,12 @@ def changes_of(program, reached, definition):
         for k, pattern in enumerate(definition.patterns(number)):
             if pattern[0] in ("name", "suc"):
                 local[pattern[1]] = types[k] if k < len(types) else "ℕ"
-        words = [word for word, _ in right]
-        for place, word in enumerate(words):
-            if place and words[place - 1] in ("let", "λ"):
+        names = [word for word, _ in right]
+        for place, word in enumerate(names):
+            if place and names[place - 1] in ("let", "λ"):
                 local[word] = "ℕ"
-        for place, word in enumerate(words):
-            bound = place and words[place - 1] in ("let", "λ")
+        for place, word in enumerate(names):
+            bound = place and names[place - 1] in ("let", "λ")
             for other in [] if bound else others(program, reached, definition, scope, local, word):
                 out.append(Change(definition, number, place, other))
     return out
@@ -104,12 +104,12 @@ def others(program, reached, definition, scope, local, word):
         value = int(word, 0)
         return [str(value + d) for d in (1, -1) if value + d >= 0]
     if word in local:
-        return [name for name, kind in local.items() if name != word and kind == local[word]]
+        return [name for name, local_type in local.items() if name != word and local_type == local[word]]
     meaning = meaning_of(program, definition.module, word)
     if meaning is None:
         return []
     if isinstance(meaning, antt.Definition):
-        return [name for name, d in scope.items() if d is not meaning and d.type_words == meaning.type_words
+        return [name for name, d in scope.items() if d is not meaning and d.type_tokens == meaning.type_tokens
                 and d is not definition and definition not in reached.get(d, ())]
     if meaning[0] == "constructor":
         return [name for name, data in definition.module.constructors.items() if data == meaning[1] and name != word]

@@ -4,11 +4,11 @@ import os
 import re
 import sys
 
-import antt
-import proved_cases
-import table
+from oracle import antt
+from oracle import proved_cases
+from oracle import table
 
-DRAWN = """-- The n bytes of a test case whose generator starts at x, as oracle/vectors.c generates them.
+GENERATOR = """-- The n bytes of a test case whose generator starts at x, as oracle/vectors.c generates them.
 unfoldable pub drawn : ℕ → ℕ → List ℕ
 drawn x zero = []
 drawn x (suc n) = let y = (x * 6364136223846793005 + 1442695040888963407) % 2 ^ 64 in y / 2 ^ 56 ∷ drawn y n
@@ -59,8 +59,8 @@ def statement(name, equation, opened):
 
 def name_of(case, taken):
     """Returns a name for the request, for example of_240_bytes_seeded."""
-    kind = "keyed" if case.seed is None else "seeded_and_keyed" if case.secret else "seeded" if case.seed else "unseeded"
-    name = f"of_{case.length}_bytes_{kind}" + (f"_by_{case.secret[0]}" if case.secret else "")
+    variant = "keyed" if case.seed is None else "seeded_and_keyed" if case.secret else "seeded" if case.seed else "unseeded"
+    name = f"of_{case.length}_bytes_{variant}" + (f"_by_{case.secret[0]}" if case.secret else "")
     taken[name] = taken.get(name, 0) + 1
     return name if taken[name] == 1 else f"{name}_{taken[name]}"
 
@@ -95,7 +95,7 @@ def common_file(program):
         "use Rattle.std.specs.Prelude.{◌≡◌, ℕ, zero, suc, ◌+◌, ◌*◌, ◌/◌, ◌%◌, ◌^◌, List, [], ◌∷◌}",
         "use Rattle.std.proofs.Common.{refl}",
         *imports([d for d in program.order if d in needed]),
-    ]) + "\n\n" + DRAWN
+    ]) + "\n\n" + GENERATOR
     for number, case in enumerate(cases, 1):
         text += f"\npub counted_{number} : counted {case.length:#x} ≡ {case.value:#x}\n"
         text += (f"unfolding {' '.join(opened)}\n" if opened else "") + f"counted_{number} = refl\n"

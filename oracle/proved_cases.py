@@ -1,6 +1,6 @@
 """Chooses the test cases of the oracle's table that the proofs compute: for each hash the edges of each range, with all
 sorts of seeds; secrets from 136 bytes on; and inputs longer than a block."""
-import table
+from oracle import table
 
 PLAIN = {
     "32": [0, 1, 3, 4, 7, 13, 15, 16, 17, 31, 32, 47, 64, 65],
@@ -38,22 +38,22 @@ def choose():
     cases = [table.Case(line) for line in table.lines()]
     found = {}
     for case in cases:
-        words = case.line.split()
-        seed = words[1] if words[1] in FIXED + ["-"] else "drawn"
+        fields = case.line.split()
+        seed = fields[1] if fields[1] in FIXED + ["-"] else "drawn"
         secret = 0 if case.secret is None else case.secret[0]
-        found.setdefault((words[0], seed, secret, case.length), case)
-    wanted = []
+        found.setdefault((fields[0], seed, secret, case.length), case)
+    selected = []
     for name, lengths in PLAIN.items():
-        wanted += [(name, "drawn", 0, n) for n in lengths]
-        wanted += [(name, seed, 0, n) for seed, n in zip(["0", "ffffffff"], lengths[-2:])]
+        selected += [(name, "drawn", 0, n) for n in lengths]
+        selected += [(name, seed, 0, n) for seed, n in zip(["0", "ffffffff"], lengths[-2:])]
     for name in ("3-64", "3-128"):
-        wanted += [(name, "drawn", 0, n) for n in SHORT + SEEDED_LONG]
-        wanted += [(name, seed, 0, n) for n in (3, 8, 16, 128, 240) for seed in ("0", "8000000000000000", "ffffffffffffffff")]
-        wanted += [(name, "-", 136, n) for n in KEYED_SHORT]
-        wanted += [(name, seed, m, n) for m, n in KEYED_LONG for seed in ("-", "drawn")]
-        wanted += [(name, "drawn", 136, 240), (name, "0", 0, 1025)]
-    missing = [key for key in wanted if key not in found]
+        selected += [(name, "drawn", 0, n) for n in SHORT + SEEDED_LONG]
+        selected += [(name, seed, 0, n) for n in (3, 8, 16, 128, 240) for seed in ("0", "8000000000000000", "ffffffffffffffff")]
+        selected += [(name, "-", 136, n) for n in KEYED_SHORT]
+        selected += [(name, seed, m, n) for m, n in KEYED_LONG for seed in ("-", "drawn")]
+        selected += [(name, "drawn", 136, 240), (name, "0", 0, 1025)]
+    missing = [key for key in selected if key not in found]
     if missing:
         raise SystemExit(f"no cases in the table: {missing}")
-    chosen = {id(found[key]) for key in wanted}
+    chosen = {id(found[key]) for key in selected}
     return [case for case in cases if id(case) in chosen]

@@ -18,11 +18,11 @@ class Reasons(dict):
 
     def of(self, text):
         """Returns the words of the reasons that fit a change."""
-        return [words for words in self if all(word in text for word in words.split(" & "))]
+        return [pattern for pattern in self if all(word in text for word in pattern.split(" & "))]
 
     def unused(self, texts):
         """Returns the words of the reasons that fit none of the changes."""
-        return [words for words in self if not any(words in self.of(text) for text in texts)]
+        return [pattern for pattern in self if not any(pattern in self.of(text) for text in texts)]
 
 
 def is_fault(what, has_reason, must_fit=True):
@@ -50,11 +50,11 @@ class Called:
         self.harmless += not call
         return f"{UNNOTICED}, but {call}" if call else "no changed result"
 
-    def told(self):
+    def summary(self):
         return f"{self.harmless} change no result of any call; calls find {self.found} of {self.called} detected ones"
 
     def faults(self):
         """Returns messages if the calls find too few of the detected changes, or too many changes have no result."""
         is_weak = self.called - self.found > max(1, MOST_MISSED * self.called)
         is_vague = self.harmless > max(2, MOST_HARMLESS * (self.detected + self.harmless))
-        return [self.told()] if is_weak or is_vague else []
+        return [self.summary()] if is_weak or is_vague else []

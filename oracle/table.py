@@ -1,13 +1,13 @@
 """The test cases of the oracle's table, and the definition's value for each."""
 import os
 
-from specs import CRATES, ENTRIES, HASHES, TOP
+from oracle.specs import CRATES, ENTRIES, HASHES, TOP
 
 FOLDER = os.path.dirname(os.path.abspath(__file__))
 __all__ = ["CRATES", "ENTRIES", "HASHES", "TOP"]
 
 
-def drawn(start, length):
+def generated(start, length):
     """Returns the bytes of a test case, as defined in oracle/vectors.c."""
     out, x = bytearray(), start
     for _ in range(length):
@@ -32,10 +32,10 @@ class Case:
 
     def ask(self, entries):
         """Returns the definition's value, by the rule for the effective seed and secret."""
-        message, seed = drawn(self.start, self.length), self.seed or 0
+        message, seed = generated(self.start, self.length), self.seed or 0
         if self.is_plain():
             return entries[self.entry](seed, message)
-        secret = None if self.secret is None else drawn(self.secret[1], self.secret[0])
+        secret = None if self.secret is None else generated(self.secret[1], self.secret[0])
         if self.seed is None and secret is not None:
             return entries[self.entry](0, secret, message)
         own = entries["derived_secret"](seed) if secret is None else secret

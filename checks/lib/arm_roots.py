@@ -2,8 +2,8 @@
 import os
 import platform
 
-from debian_apt import Apt
-from tools import must, text_of, write
+from checks.lib.debian_apt import Apt
+from checks.lib.tools import must, text_of, write
 
 TOOLS = 'aarch64-linux-gnu-'
 

@@ -3,7 +3,7 @@ import glob
 import os
 from typing import Any
 
-from tools import QUIET, must, write
+from checks.lib.tools import QUIET, must, write
 
 LINE = '[signed-by=/usr/share/keyrings/debian-archive-keyring.gpg] http://deb.debian.org/debian'
 

@@ -4,7 +4,7 @@ sources have separate paths for q = 16 (see every_length.py), from 31,744 bytes 
 import collections
 import functools
 
-from symbolic_terms import LONGEST, NotShown, at_most, given, is_same, minus, plus, symbol, times, variable
+from oracle.symbolic_terms import LONGEST, NotShown, at_most, given, is_same, minus, plus, symbol, times, variable
 
 from .every_length import DERIVED, FAR, MANY, PREFETCHED
 from .stripes import Part
@@ -50,8 +50,8 @@ class AnySecret(Xxh3Updates):
             ask = functools.partial(self.cpu.library.one_shot, self.cpu, f"3-{width}", way)
             value = self.run([], ask, parts, address(self.source), n, address(self.secret_source), self.secret_length,
                              *seed, summaries=[TAKE])
-            said = self.texts[f"xxh3_{width}"](seed[0] if seed else 0, self.secret, self.message)
-            if not is_same(value, said):
+            expected = self.texts[f"xxh3_{width}"](seed[0] if seed else 0, self.secret, self.message)
+            if not is_same(value, expected):
                 raise NotShown(f"{n} bytes with a secret of {self.secret_length}: another value")
 
     def queries(self, way, width):

@@ -9,13 +9,13 @@ all else is symbolic. A digest returns the definition's value and leaves the sta
 import collections
 import functools
 
-from symbolic_terms import (LONGEST, Bytes, Input, NotShown, Piece, Request, at_most, given, is_same, is_same_number,
-                            lifted, minus, plus, same, seed_symbol, suppositions, times, variable)
+from oracle.symbolic_terms import (LONGEST, Bytes, Input, NotShown, Piece, Request, at_most, given, is_same, is_same_number,
+                                   lifted, minus, plus, same, seed_symbol, suppositions, times, variable)
 
 from . import layouts, streams
 from .every_length import UNROLLED, Cases
 from .induction import Family, Loops
-from .memory import Words
+from .memory import WordMemory
 
 # An update of a state with r buffered bytes. It fills their stripe or not, takes `further` stripes, plus any number of
 # turns of the unrolled loop with `more`, and leaves s bytes in the buffer.
@@ -83,8 +83,8 @@ class AnyUpdates(Cases):
             accumulators = [self.cpu.fresh("accumulator", self.width) for _ in range(4)]
             suppositions.suppose(lambda j: self.accumulator(j, a), accumulators)
         size = self.library.SIZES[self.hash_name]
-        state = Words("state", size, [(at, 1, self.cpu.fresh("a byte", 8)) for at in range(size)],
-                      alignment=streams.ALIGNMENT.get(self.hash_name, 8))
+        state = WordMemory("state", size, [(at, 1, self.cpu.fresh("a byte", 8)) for at in range(size)],
+                           alignment=streams.ALIGNMENT.get(self.hash_name, 8))
         for at, size, x in self.parts(a, r, accumulators):
             state.store(at, size, x)
         return state

@@ -4,11 +4,11 @@ import functools
 import itertools
 import random
 
-from symbolic_terms import (LONGEST_SECRET, Bytes, Input, NotShown, Request, at_most, definition, given, is_same, minus, nodes,
-                            plus, symbol, times, variable)
+from oracle.symbolic_terms import (LONGEST_SECRET, Bytes, Input, NotShown, Request, at_most, definition, given, is_same, minus, nodes,
+                                   plus, symbol, times, variable)
 
 from . import layouts, one_shots, streams
-from .memory import Numbers, OnlyRead, Words
+from .memory import Numbers, OnlyRead, WordMemory
 from .streams import ERROR, OK, contents, digest, expect_answer, expect_same, new_state, reset, update
 from .values import address, arithmetic, bits, low
 
@@ -28,7 +28,7 @@ def expect(what, ours, theirs):
 
 # ---- canonical forms and comparisons
 
-def words_of(width, name):
+def parts_of(width, name):
     """Returns a symbolic hash as the registers that pass it: one of up to 64 bits, or two."""
     return [(symbol(f"{name}{k} of {width}", min(width, 64)), min(width, 64)) for k in range(max(1, width // 64))]
 
@@ -36,12 +36,12 @@ def words_of(width, name):
 def canonical_forms(cpu):
     """Tests the conversion of a hash to big-endian bytes and back. The bytes are unaligned."""
     for name, width in WIDTHS.items():
-        words, size = words_of(width, "hash"), width // 8
-        of_hash = Words("canonical", size, alignment=1)
-        cpu.call(f"{name}_canonicalFromHash", address(of_hash), *words)
+        parts, size = parts_of(width, "hash"), width // 8
+        of_hash = WordMemory("canonical", size, alignment=1)
+        cpu.call(f"{name}_canonicalFromHash", address(of_hash), *parts)
         for k in range(size):
             at = 8 * (size - 1 - k)
-            expect(f"{name}_canonicalFromHash", of_hash.load(k, 1), bits(words[at // 64][0], at % 64, 8))
+            expect(f"{name}_canonicalFromHash", of_hash.load(k, 1), bits(parts[at // 64][0], at % 64, 8))
         source = Input("canonical", size)
         rax, rdx = cpu.call(f"{name}_hashFromCanonical", address(source))
         for k in range(size):
@@ -70,9 +70,9 @@ def compare(cpu):
             a, b, more = (variable(name) for name in ("a", "b", "more"))
             rest = variable("less")
             with given(at_most(plus(a, more, 1), LIMITS[64]), at_most(plus(b, rest, 1), LIMITS[64])):
-                words = [(plus(x, d, 1) if side > 0 else x, plus(x, d, 1) if side < 0 else x)
+                pairs = [(plus(x, d, 1) if side > 0 else x, plus(x, d, 1) if side < 0 else x)
                          for x, d, side in ((b, rest, under), (a, more, high))]
-                first, second = (OnlyRead(name, 16, [(8 * k, 8, words[k][j]) for k in (0, 1)], alignment=8)
+                first, second = (OnlyRead(name, 16, [(8 * k, 8, pairs[k][j]) for k in (0, 1)], alignment=8)
                                  for j, name in enumerate(("first", "second")))
                 rax, _ = cpu.call("XXH128_cmp", address(first), address(second))
             expect("XXH128_cmp", low(rax, 32), order[high or under])
@@ -88,9 +88,9 @@ def compare_in_one_place(cpu):
         second = plus(first, times(plus(e, 1), below))
         third = plus(second, times(plus(d, 1), above))
         with given(at_most(plus(a, d, e, 2), LIMITS[64])):
-            words = OnlyRead("hashes", 24, [(0, 8, first), (8, 8, second), (16, 8, third)], alignment=8)
+            hashes = OnlyRead("hashes", 24, [(0, 8, first), (8, 8, second), (16, 8, third)], alignment=8)
             for at, other, sign in ((8, 0, 1), (0, 8, -1), (0, 0, 0), (8, 8, 0)):
-                rax, _ = cpu.call("XXH128_cmp", address(words, at), address(words, other))
+                rax, _ = cpu.call("XXH128_cmp", address(hashes, at), address(hashes, other))
                 expect("XXH128_cmp of hashes in one place", low(rax, 32), order[sign * (above or below)])
                 count += 1
     return count
@@ -166,7 +166,7 @@ def without_mark(cpu):
     """Tests memory with any content, and any word in the mark's place that isn't a mark: all below the first mark, between
     two, and above the last."""
     count, v = 0, variable("v")
-    plain = [(name, [(at.first_mark, at.room)], None, []) for name, at in layouts.PLAIN.items()]
+    plain = [(name, [(at.first_mark, at.capacity)], None, []) for name, at in layouts.PLAIN.items()]
     for hash_name, marks, secret, facts in [*plain, *((name, [(mark, 1) for mark in sorted(marks)], secret, facts)
                                                       for name, marks, secret, facts, _ in forms())]:
         (at, n), first = mark_of(hash_name), 0
@@ -183,12 +183,12 @@ def invalid_fields(at, q):
     """Yields the invalid fields of streams of XXH3 of a layout, with q stripes in a block: (offset, value), .., with facts: a
     position behind the secret's end, more buffered bytes than the buffer holds, or none although the total isn't 0. All
     other fields are any words."""
-    v, w, most, room = variable("v"), variable("w"), LIMITS[64], at.room
+    v, w, most, capacity = variable("v"), variable("w"), LIMITS[64], at.capacity
     usage, total = at.buffer_usage, at.total_bytes
     places = [(False, v, [minus(q, plus(v, 1))]), (True, plus(v, q), [at_most(plus(v, q), most)])]
     waiting = [(False, [(usage, 0), (total, 0)], []), (True, [(usage, 0), (total, plus(w, 1))], [at_most(w, most - 1)]),
-               (False, [(usage, plus(w, 1))], [at_most(w, room - 2)]), (False, [(usage, room)], []),
-               (True, [(usage, plus(w, room + 1))], [at_most(w, most - room - 1)])]
+               (False, [(usage, plus(w, 1))], [at_most(w, capacity - 2)]), (False, [(usage, capacity)], []),
+               (True, [(usage, plus(w, capacity + 1))], [at_most(w, most - capacity - 1)])]
     for (is_behind, place, of_place), (is_wrong, fields, of_fields) in itertools.product(places, waiting):
         if is_behind or is_wrong:
             yield [(at.current_stripe, place), *fields], [*of_place, *of_fields]
@@ -213,9 +213,9 @@ def out_of_range(cpu):
 
 def refused_resets(cpu):
     """Tests that a reset refuses a secret of each length that is too short. The state stays unchanged."""
-    for kind in ("secret", "both"):
+    for variant in ("secret", "both"):
         with given(at_most(variable("v"), SHORTEST - 1)):
-            state, request = new_state(cpu, "3-64"), Request("3-64", kind, 0, variable("v"))
+            state, request = new_state(cpu, "3-64"), Request("3-64", variant, 0, variable("v"))
             before = contents(state)
             expect_answer(reset(cpu, request, state), ERROR)
             expect_same("a refused reset", before, state)
@@ -229,9 +229,9 @@ def short_secrets(cpu, hash_name):
     needed: always without a seed, and above 240 bytes with a seed. Otherwise it is the seed's hash."""
     entries, n, size = definition.program().run(), variable("n"), variable("v")
     cases = [("secret", n, 0), ("both", plus(n, 241), 0), *(("both", k, None) for k in range(241))]
-    for kind, length, value in cases:
+    for variant, length, value in cases:
         with given(at_most(length, LIMITS[64]), at_most(size, SHORTEST - 1)):
-            request = Request(hash_name, kind, length, size)
+            request = Request(hash_name, variant, length, size)
             theirs = request.of_definition(entries) if value is None else value
             expect(f"{request}", one_shots.of_text(cpu, request), theirs)
     return len(cases)
@@ -240,14 +240,14 @@ def short_secrets(cpu, hash_name):
 def null_pointers(cpu):
     """Tests that an input and a secret of length 0 may be null."""
     entries, count = definition.program().run(), 0
-    for hash_name, kind in (("32", "seed"), ("64", "seed"), *((name, kind) for name in ("3-64", "3-128")
-                                                                for kind in one_shots.WAYS)):
-        for size in [0, SHORTEST] if kind in ("secret", "both") else [None]:
-            request = Request(hash_name, kind, 0, size)
+    for hash_name, variant in (("32", "seed"), ("64", "seed"), *((name, variant) for name in ("3-64", "3-128")
+                                                                for variant in one_shots.WAYS)):
+        for size in [0, SHORTEST] if variant in ("secret", "both") else [None]:
+            request = Request(hash_name, variant, 0, size)
             secret = [] if size is None else [address(request.secret) if size else 0, size]
-            theirs = 0 if kind == "secret" and not size else request.of_definition(entries)
+            theirs = 0 if variant == "secret" and not size else request.of_definition(entries)
             cpu.not_zero = []
-            ours = cpu.library.one_shot(cpu, hash_name, kind, 0, 0, *secret, *one_shots.of_seed(request))
+            ours = cpu.library.one_shot(cpu, hash_name, variant, 0, 0, *secret, *one_shots.of_seed(request))
             expect(f"{request} at null", ours, theirs)
             count += 1
     return count
@@ -256,18 +256,18 @@ def null_pointers(cpu):
 def in_one_place(cpu):
     """Tests one-shots of concrete messages and secrets that overlap or are equal. The tasks with symbols show that no
     branch depends on their addresses."""
-    entries, count, draw = definition.program().run(), 0, random.Random(3)
+    entries, count, rng = definition.program().run(), 0, random.Random(3)
     cpu.not_zero = []
-    for hash_name, kind, (first, n, own, size) in itertools.product(("3-64", "3-128"), ("secret", "both"), ONE_PLACE):
-        if not cpu.library.has(Request(hash_name, kind, n, size)):
+    for hash_name, variant, (first, n, own, size) in itertools.product(("3-64", "3-128"), ("secret", "both"), ONE_PLACE):
+        if not cpu.library.has(Request(hash_name, variant, n, size)):
             continue
-        data = draw.randbytes(max(first + n, own + size))
-        whole, seed = Numbers("m", data), draw.getrandbits(64) if kind == "both" else 0
-        ours = cpu.library.one_shot(cpu, hash_name, kind, address(whole, first), n, address(whole, own), size,
-                                    *([seed] if kind == "both" else []))
-        theirs = definition.value(entries, hash_name, kind, seed, memoryview(data)[own:own + size],
+        data = rng.randbytes(max(first + n, own + size))
+        whole, seed = Numbers("m", data), rng.getrandbits(64) if variant == "both" else 0
+        ours = cpu.library.one_shot(cpu, hash_name, variant, address(whole, first), n, address(whole, own), size,
+                                    *([seed] if variant == "both" else []))
+        theirs = definition.value(entries, hash_name, variant, seed, memoryview(data)[own:own + size],
                                   memoryview(data)[first:first + n])
-        expect(f"XXH{hash_name}, {kind}: {n} bytes from {first}, secret of {size} from {own}", ours, theirs)
+        expect(f"XXH{hash_name}, {variant}: {n} bytes from {first}, secret of {size} from {own}", ours, theirs)
         count += 1
     return count
 
@@ -275,10 +275,10 @@ def in_one_place(cpu):
 def updates_of_nothing(cpu):
     """Tests that a null chunk of length 0, before, between and after other chunks, leaves the digest unchanged."""
     entries, count = definition.program().run(), 0
-    for hash_name, kind, size in (("32", "seed", None), ("64", "seed", None), ("3-64", "default", None),
-                                  ("3-128", "default", None), ("3-64", "secret", SHORTEST), ("3-128", "both", SHORTEST)):
+    for hash_name, variant, size in (("32", "seed", None), ("64", "seed", None), ("3-64", "default", None),
+                                     ("3-128", "default", None), ("3-64", "secret", SHORTEST), ("3-128", "both", SHORTEST)):
         for n in (0, 5, 33, 300, 700):
-            request = Request(hash_name, kind, n, size)
+            request = Request(hash_name, variant, n, size)
             state = new_state(cpu, hash_name)
             expect_answer(reset(cpu, request, state), OK)
             for piece in (None, request.message, None):
@@ -293,14 +293,14 @@ def derived_secret(cpu):
     entries = definition.program().run()
     for seed in (symbol("seed64", 64), 0):
         cpu.not_zero = []
-        room = Words("secret", 192, alignment=1)
-        cpu.call("XXH3_generateSecret_fromSeed", address(room), seed)
+        buffer = WordMemory("secret", 192, alignment=1)
+        cpu.call("XXH3_generateSecret_fromSeed", address(buffer), seed)
         for k, byte in enumerate(entries["derived_secret"](seed)):
-            expect("XXH3_generateSecret_fromSeed", room.load(k, 1), byte)
+            expect("XXH3_generateSecret_fromSeed", buffer.load(k, 1), byte)
     return 2
 
 
-def made_secrets(cpu, asked):
+def generated_secrets(cpu, asked):
     """Tests secrets of given sizes, generated from seeds of given lengths. A refusal of a small size writes nothing."""
     program = definition.program(("twox_c",), ("generated_secret",))
     entries = program.run()
@@ -308,18 +308,18 @@ def made_secrets(cpu, asked):
         if len(nodes.NODES) > MOST_NODES:
             nodes.forget()
             entries = program.run()
-        room = Words("secret", size, [(k, 1, cpu.fresh("a byte", 8)) for k in range(size)], alignment=1)
-        before, source = [room.load(k, 1) for k in range(size)], Input("m", length)
-        answer = cpu.call("proved_XXH3_generateSecret", address(room), size, address(source) if length else 0, length)
+        buffer = WordMemory("secret", size, [(k, 1, cpu.fresh("a byte", 8)) for k in range(size)], alignment=1)
+        before, source = [buffer.load(k, 1) for k in range(size)], Input("m", length)
+        answer = cpu.call("proved_XXH3_generateSecret", address(buffer), size, address(source) if length else 0, length)
         expect_answer(answer, OK if size >= SHORTEST else ERROR)
-        made = entries["generated_secret"](Bytes(source, 0, length), size) if size >= SHORTEST else before
-        for k, byte in zip(range(size), made, strict=True):
-            expect(f"a secret of {size} bytes of {length}", room.load(k, 1), byte)
+        expected = entries["generated_secret"](Bytes(source, 0, length), size) if size >= SHORTEST else before
+        for k, byte in zip(range(size), expected, strict=True):
+            expect(f"a secret of {size} bytes of {length}", buffer.load(k, 1), byte)
     return len(asked)
 
 
 def some_secrets(cpu):
-    return made_secrets(cpu, [(SHORTEST - 1, 3), (SHORTEST, 0), (143, 3), (200, 17), (256, 241)])
+    return generated_secrets(cpu, [(SHORTEST - 1, 3), (SHORTEST, 0), (143, 3), (200, 17), (256, 241)])
 
 
 # Titles, minimum numbers of cases, and test functions: of calls that take no message, and of calls that take one.

@@ -5,11 +5,11 @@ Each call of an XXH3 stream takes the secret as an argument. The stream begins w
 import os
 import re
 
-from symbolic_terms import TOP, NotShown, Unsupported, is_same
+from oracle.symbolic_terms import TOP, NotShown, Unsupported, is_same
 
 from . import layouts
 from .object_contents import HIDDEN, WEAK
-from .memory import Words
+from .memory import WordMemory
 from .objects import TEXT, Program
 from .one_shots import is_plain
 from .processor import Processor
@@ -63,14 +63,14 @@ class CargoProcessor(Processor):
         super().__init__(program, program.name)
 
 
-class Value(Words):
+class Value(WordMemory):
     """Memory object for a call's 128-bit result, with any content before the call."""
 
     def __init__(self, cpu):
         self.before = [cpu.fresh("a value") for _ in range(2)]
         super().__init__("value", 16, [(8 * k, 8, x) for k, x in enumerate(self.before)], alignment=8)
 
-    def words(self):
+    def parts(self):
         return [self.load(8 * k, 8) for k in range(2)]
 
 
@@ -86,10 +86,10 @@ def call_into(cpu, hash_name, name, *arguments):
         code = low(cpu.call(name, *arguments, address(value))[0], 32)
     finally:
         cpu.live = [other for other in cpu.live if other is not value]
-    words = value.words()
+    parts = value.parts()
     if is_same(code, DONE):
-        return code, joined(*((word, 64) for word in words))
-    if not all(map(is_same, words, value.before)):
+        return code, joined(*((word, 64) for word in parts))
+    if not all(map(is_same, parts, value.before)):
         raise NotShown(f"{name}: a refusal writes a value")
     return code, 0
 
@@ -105,13 +105,13 @@ class ForCargo:
     @staticmethod
     def has(request):
         """True if the source has a call for a request: a long input with a secret."""
-        return request.kind == "secret" and request.cuts is None and request.length > LONGEST_WITHOUT
+        return request.variant == "secret" and request.cuts is None and request.length > LONGEST_WITHOUT
 
     @staticmethod
-    def one_shot(cpu, hash_name, kind, *arguments):
+    def one_shot(cpu, hash_name, variant, *arguments):
         """Returns the hash, or 0 if the secret is too short and the call refuses it."""
-        if kind != "secret":
-            raise Unsupported(f"no export hashes with {kind}")
+        if variant != "secret":
+            raise Unsupported(f"no export hashes with {variant}")
         secret_length = arguments[3]
         is_short = isinstance(secret_length, int) and secret_length < SHORTEST
         code, value = call_into(cpu, hash_name, f"{export_name(hash_name)}_long", *arguments)

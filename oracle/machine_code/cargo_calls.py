@@ -2,7 +2,7 @@
 import itertools
 import re
 
-from symbolic_terms import Input, at_most, given, is_natural, is_same_number, minus, plus, variable
+from oracle.symbolic_terms import Input, at_most, given, is_natural, is_same_number, minus, plus, variable
 
 from . import layouts
 from .calls import LIMITS, callers_secret, expect, invalid_fields
@@ -12,7 +12,7 @@ from .values import address, low
 
 HASHES = "3-64", "3-128"
 FEW_BYTES = 64                    # of a chunk, up to which a write has a separate path
-ROOM = layouts.CORE.room
+CAPACITY = layouts.CORE.capacity
 
 
 def interface(cpu):
@@ -29,8 +29,8 @@ def interface(cpu):
 def long_input(cpu, hash_name, message, n, secret, size, code):
     """Tests that a call with n bytes and a secret of `size` bytes returns a code, and the value 0."""
     name = f"{export_name(hash_name)}_long"
-    told, value = call_into(cpu, hash_name, name, message, n, secret, size)
-    expect_code(name, told, code)
+    actual, value = call_into(cpu, hash_name, name, message, n, secret, size)
+    expect_code(name, actual, code)
     expect(name, value, 0)
 
 
@@ -68,9 +68,9 @@ def chunks(waiting):
     """Yields the lengths of a chunk by the paths of a write, which has another one for a few bytes that fit in the buffer
     beside the waiting ones."""
     (place, n, facts), *few = lengths_of(FEW_BYTES)
-    more = minus(plus(n, waiting), ROOM + 1)
-    is_split = not is_same_number(waiting, 0) and is_natural(minus(ROOM, waiting))
-    yield place, n, [*facts, *([at_most(plus(n, waiting), ROOM)] if is_split else [])]
+    more = minus(plus(n, waiting), CAPACITY + 1)
+    is_split = not is_same_number(waiting, 0) and is_natural(minus(CAPACITY, waiting))
+    yield place, n, [*facts, *([at_most(plus(n, waiting), CAPACITY)] if is_split else [])]
     yield from [*([(place, n, [*facts, more])] if is_split else []), *few, *lengths_of(LIMITS[64], FEW_BYTES + 1)]
 
 
@@ -98,7 +98,7 @@ def not_marked(mark, stripe):
 def without_mark(cpu):
     """Tests records of XXH32 with any content, and any word in the mark's place that isn't a mark."""
     layout, count = layouts.PLAIN["32"], 0
-    for word, facts in not_marked(layout.first_mark, layout.room):
+    for word, facts in not_marked(layout.first_mark, layout.capacity):
         with given(*facts):
             state = new_state(cpu, "32")
             state.store(layout.marked, 4, word)

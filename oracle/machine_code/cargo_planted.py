@@ -4,7 +4,7 @@ import re
 import subprocess
 import tempfile
 
-from symbolic_terms import NotShown
+from oracle.symbolic_terms import NotShown
 
 from . import any_updates, cargo_calls
 from .cargo import FOLDER, CargoProcessor, CargoProgram
@@ -44,9 +44,9 @@ def exported(cpu):
 
 def same_code(cpu):
     """Checks that TAKER and LEADS, which calls it, equal the unchanged source's."""
-    with tempfile.TemporaryDirectory(prefix="machine-text-") as room:
-        subprocess.run(["gcc", "-c", SOURCE, "-o", f"{room}/right.o"], check=True)
-        right = CargoProgram(V1, f"{room}/right.o")
+    with tempfile.TemporaryDirectory(prefix="machine-text-") as workdir:
+        subprocess.run(["gcc", "-c", SOURCE, "-o", f"{workdir}/right.o"], check=True)
+        right = CargoProgram(V1, f"{workdir}/right.o")
     left = {TAKER, LEADS} - shared(cpu.program, right)
     if left:
         raise NotShown(f"other code: {', '.join(sorted(left))}")

@@ -1,6 +1,6 @@
 """Proves the chunks of XXH3 streams of a cargo source, like xxh3_states.py for the C library. A stream has no mark, seed or
 secret: each call takes the secret as an argument."""
-from symbolic_terms import at_most, is_same_number, minus
+from oracle.symbolic_terms import at_most, is_same_number, minus
 
 from . import layouts
 from .xxh3_states import CallersSecret, Through
@@ -14,7 +14,7 @@ class CargoThrough(Through):
 
 
 class CargoUpdates(CallersSecret):
-    at, KINDS, TITLE, HAS_SEED = layouts.CORE, (UPDATES,), "pieces of XXH3", (0,)
+    at, TASKS, TITLE, HAS_SEED = layouts.CORE, (UPDATES,), "pieces of XXH3", (0,)
     SPANS = (1, FEW), (FEW + 1, LONG_PIECE - 1), (LONG_PIECE, None)
 
     def own(self):
@@ -24,8 +24,8 @@ class CargoUpdates(CallersSecret):
         """Makes a chunk of no bytes with a full buffer a separate case."""
         for (place, f), end, length, facts in super().small_pieces():
             if is_same_number(length, 0) and not is_same_number(f, 0):
-                yield (place, self.room), (place, self.room), length, facts
-                facts = [*facts, at_most(f, self.room - 1)]
+                yield (place, self.capacity), (place, self.capacity), length, facts
+                facts = [*facts, at_most(f, self.capacity - 1)]
             yield (place, f), end, length, facts
 
     @staticmethod
@@ -33,4 +33,4 @@ class CargoUpdates(CallersSecret):
         yield from ([at_most(more, FEW - 33)], [minus(more, FEW - 32)])
 
 
-KINDS = CargoThrough, CargoUpdates
+PROOFS = CargoThrough, CargoUpdates

@@ -2,7 +2,7 @@
 sources for x86-64-v3 and v4 are c/asm's, byte for byte, and have the same tasks."""
 import functools
 
-from symbolic_terms import comparison
+from oracle.symbolic_terms import comparison
 
 from . import calls, cargo_calls, cargo_streams, every_length, tasks, xxh3_updates
 from .cargo import FOLDER, CargoProgram, export_name
@@ -33,10 +33,10 @@ def programs():
 
 def choose(texts, like, is_all):
     """Returns the tasks on `texts`; `like` has c/asm's sources."""
-    made = tasks.makers(texts)
-    out = [*with_begin([*long_input_tasks(made, is_all), *piece_tasks(tasks.before_v4(made), is_all, SOME_UPDATES),
-                        *xxh3_tasks(made, is_all), *tasks.any_secret_tasks(made, is_all, ANY_SECRET)]),
-           *call_tasks(texts, made, like)]
+    processors = tasks.makers(texts)
+    out = [*with_begin([*long_input_tasks(processors, is_all), *piece_tasks(tasks.before_v4(processors), is_all, SOME_UPDATES),
+                        *xxh3_tasks(processors, is_all), *tasks.any_secret_tasks(processors, is_all, ANY_SECRET)]),
+           *call_tasks(texts, processors, like)]
     out.insert(0, tasks.counted(f"{BEGIN}each export has its task", EXPORTS * len(texts),
                                lambda: exports_left_out(texts, [task.title for task in out])))
     return out
@@ -48,25 +48,25 @@ def with_begin(found, begin=BEGIN):
         yield task
 
 
-def long_input_tasks(made, is_all, some=LENGTHS):
+def long_input_tasks(processors, is_all, some=LENGTHS):
     """Yields the tasks of single lengths. With a secret of 136 bytes x86-64-v4 runs the code of x86-64-v3."""
     for hash_name in cargo_calls.HASHES:
         for size in SECRETS:
-            kind = hash_name, "secret", size
+            algorithm = hash_name, "secret", size
             lengths = MORE_LENGTHS if is_all else [*some, *(tasks.EDGES_OF_BLOCKS if size == SECRETS[1] else ())]
-            asked = made if is_all or size == SECRETS[1] else tasks.before_v4(made)
-            yield tasks.compared(asked, comparison.title_of(*kind), comparison.requests(*kind, lengths))
+            asked = processors if is_all or size == SECRETS[1] else tasks.before_v4(processors)
+            yield tasks.compared(asked, comparison.title_of(*algorithm), comparison.requests(*algorithm, lengths))
 
 
-def piece_tasks(made, is_all, some=tasks.SOME_UPDATES):
+def piece_tasks(processors, is_all, some=tasks.SOME_UPDATES):
     """Returns the tasks of XXH32 chunks of any length: all cases, in parts, or a sample."""
-    return tasks.plain_stream_tasks(made, is_all, some, "pieces of XXH{}", ("32",))
+    return tasks.plain_stream_tasks(processors, is_all, some, "pieces of XXH{}", ("32",))
 
 
-def xxh3_tasks(made, is_all, like=LIKE):
+def xxh3_tasks(processors, is_all, like=LIKE):
     """Yields the tasks of XXH3 chunks. With --all c/asm's tasks cover functions of LIKE that take stripes."""
-    left_out = [name for name in made if name.endswith(like)] if is_all else []
-    for task in tasks.xxh3_tasks(made, is_all, cargo_streams.KINDS):
+    left_out = [name for name in processors if name.endswith(like)] if is_all else []
+    for task in tasks.xxh3_tasks(processors, is_all, cargo_streams.PROOFS):
         if xxh3_updates.STRIPES not in task.title or not any(f", {name}," in task.title for name in left_out):
             yield task
 
@@ -95,10 +95,10 @@ def refusal_tasks(of):
     yield of("streams of XXH3: secrets that are too short", 2, cargo_calls.secrets_of_streams)
 
 
-def call_tasks(texts, made, like):
+def call_tasks(texts, processors, like):
     return [*(tasks.counted(f"{BEGIN}functions of {name} that are c/asm's, byte for byte", LEAST_SHARED,
                            functools.partial(expect_shared, texts[f"cargo's {name}"], like[name])) for name in LIKE),
             tasks.counted(f"{BEGIN}exports of {V4} that have the code of {V3}", EXPORTS - len(WIDENED),
                          lambda: expect_code_of_v3(texts[f"cargo's {V4}"], texts[f"cargo's {V3}"])),
-            *with_begin(refusal_tasks(functools.partial(tasks.of_each, made))),
+            *with_begin(refusal_tasks(functools.partial(tasks.of_each, processors))),
             *with_begin([tasks.frames_task(texts, FRAMED), tasks.assembler_task([(f"{FOLDER}/{name}.s", V1) for name in NAMES])])]

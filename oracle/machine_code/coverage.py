@@ -2,7 +2,7 @@
 case. Only the polynomials and facts that a case's proof uses are taken from it."""
 import random
 
-from symbolic_terms import names_of, plus, value_at
+from oracle.symbolic_terms import names_of, plus, value_at
 
 from . import xxh3_updates
 
@@ -13,17 +13,17 @@ FAR_OFF = 31_744, 32_000, 100_000, 1 << 40
 
 def points(count, proof):
     """Yields points (q, u, b, j, f, L): edges and random numbers, the same each time."""
-    draw = random.Random(5)
+    rng = random.Random(5)
     stripes = [proof.q] if isinstance(proof.q, int) else [*STRIPES, *LONG_BLOCKS]
     for k in range(count):
-        q = draw.choice(stripes)
-        j, b = draw.choice((0, q - 1, draw.randrange(q))), draw.choice((0, 1, draw.randrange(1 << 40)))
-        f = min(proof.room, max(0, draw.choice((64 * draw.randrange(proof.whole + 1) + draw.randrange(-2, 3),
-                                                draw.randrange(proof.room + 1)))))
-        L = max(0, draw.choice((*EDGES, *FAR_OFF, 64 * draw.randrange(600), draw.randrange(3000))) + draw.randrange(-2, 3))
+        q = rng.choice(stripes)
+        j, b = rng.choice((0, q - 1, rng.randrange(q))), rng.choice((0, 1, rng.randrange(1 << 40)))
+        f = min(proof.capacity, max(0, rng.choice((64 * rng.randrange(proof.whole + 1) + rng.randrange(-2, 3),
+                                                   rng.randrange(proof.capacity + 1)))))
+        L = max(0, rng.choice((*EDGES, *FAR_OFF, 64 * rng.randrange(600), rng.randrange(3000))) + rng.randrange(-2, 3))
         if not f:
             b = j = 0
-        u = draw.choice((0, draw.randrange(min(8, proof.longest_secret - 63 - 8 * q))))
+        u = rng.choice((0, rng.randrange(min(8, proof.longest_secret - 63 - 8 * q))))
         yield q, u, b, j, f, min(L, proof.longest_piece)
 
 
@@ -44,10 +44,10 @@ def variables(q, u, b, j, f, L=0):
             "left": left - 64 * n, "more": L - 33, "w": L - 65, "rest": 0}
 
 
-def has(point, facts, said):
+def has(point, facts, values):
     """True if a case contains a point: its facts hold there, and its polynomials have the given values."""
-    names = names_of(*facts, *(x for x, _ in said))
-    return all(point.get(name, -1) >= 0 for name in names) and all(value_at(x, point) == n for x, n in said) and \
+    names = names_of(*facts, *(x for x, _ in values))
+    return all(point.get(name, -1) >= 0 for name in names) and all(value_at(x, point) == n for x, n in values) and \
         all(value_at(fact, point) >= 0 for fact in facts)
 
 
@@ -57,7 +57,7 @@ def without_update(cases, proof, count):
     for q, u, b, j, f, L in points(count, proof):
         point = variables(q, u, b, j, f, L)
         K, total = q * b + j, 64 * (q * b + j) + f + L
-        taken = 0 if f + L <= proof.room else point["g"] + point["n"]
+        taken = 0 if f + L <= proof.capacity else point["g"] + point["n"]
         end = K + taken, total - 64 * (K + taken)
         if not any(has(point, [*of_case, *proof.facts], [(x, n) for x, n in zip(
                 (*start[0], start[1], length, *to[0], to[1]), (b, j, f, L, end[0] // q, end[0] % q, end[1]))])
@@ -103,16 +103,16 @@ def without_taken(cases, proof, names, count):
 
 def without_one_shot(cases, facts, count):
     """Yields lengths (q, n) that no case contains, for blocks of q stripes, q not 16."""
-    cases, draw = list(cases), random.Random(6)
+    cases, rng = list(cases), random.Random(6)
     while count:
-        q = draw.choice((*STRIPES, draw.randrange(9, 600), draw.randrange(9, 1 << 33)))
-        n = draw.choice((*EDGES, *FAR_OFF, draw.randrange(1 << 16), 1 << 38, draw.randrange(1 << 63),
-                         64 * q * draw.randrange(5))) + draw.randrange(-2, 3)
+        q = rng.choice((*STRIPES, rng.randrange(9, 600), rng.randrange(9, 1 << 33)))
+        n = rng.choice((*EDGES, *FAR_OFF, rng.randrange(1 << 16), 1 << 38, rng.randrange(1 << 63),
+                        64 * q * rng.randrange(5))) + rng.randrange(-2, 3)
         if q != 16 and n > 240:
             count -= 1
             K, t = divmod(n - 1, 64)
             B, J = divmod(K, q)
-            point = {"q": q, "u": draw.randrange(8), "B": B, "J": J, "t": t}
+            point = {"q": q, "u": rng.randrange(8), "B": B, "J": J, "t": t}
             if not any(has(point, [*case.facts, *facts], [(case.blocks, B), (case.more, J)]) for case in cases):
                 yield q, n
 
@@ -125,7 +125,7 @@ def left_out(proof, count):
     """Returns the points that no case contains: of updates, digests, and functions that take stripes."""
     taken = [(xxh3_updates.TAKE.name, 0), (xxh3_updates.TAKE_MANY.name, xxh3_updates.MANY)]
     taken += [(xxh3_updates.TAKE_WIDENED.name, xxh3_updates.BLOCK)] * proof.is_widened()
-    found = [*without_digest(proof.digests(), proof, count)] if xxh3_updates.DIGESTS in proof.KINDS else []
-    if xxh3_updates.STRIPES in proof.KINDS:
+    found = [*without_digest(proof.digests(), proof, count)] if xxh3_updates.DIGESTS in proof.TASKS else []
+    if xxh3_updates.STRIPES in proof.TASKS:
         found += [*without_update(proof.all_updates(), proof, count), *without_taken(proof.all_taken(), proof, taken, count)]
     return found

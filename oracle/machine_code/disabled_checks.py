@@ -1,7 +1,7 @@
 """Disables the verifier's checks one by one, and requires that a planted fault detects it: the faulty source that the
 check refuses is then accepted, or refused for another reason.
 
-A check is a statement that only raises under an `if`, a `want`, or a line that the grammar accepts. The traceback of a
+A check is a statement that only raises under an `if`, a `require`, or a line that the grammar accepts. The traceback of a
 refusal shows the check. A check that no planted fault reaches or detects needs a line in unplanted.txt with the reason.
 A line whose check a planted fault detects fails too. Each result without a check is computed in a separate process,
 which compiles the module without that statement."""
@@ -19,13 +19,14 @@ import tempfile
 import traceback
 
 HERE = os.path.dirname(os.path.abspath(__file__))
+TOP = os.path.dirname(os.path.dirname(HERE))
 UNPLANTED = os.path.join(HERE, "unplanted.txt")
 MODULES = ("grammar", "object_contents", "objects", "disassembly", "sources", "unwinding", "processor", "memory", "stream_state",
            "streams", "calls", "cargo", "exports", "instructions", "any_updates", "every_length", "xxh3_updates", "xxh3_states",
            "aarch64.objects", "aarch64.processor", "induction", "stripes", "values", "flags",
            "../symbolic_terms/memory", "../symbolic_terms/induction")
-TAKING = {"take": "lines.number += 1", "take_exactly": "lines.number += {count}", "refuse": "pass", "want": "pass"}
-THEMSELVES = "want", "refuse", "take", "take_exactly", "has"
+TAKING = {"take": "lines.number += 1", "take_exactly": "lines.number += {count}", "refuse": "pass", "require": "pass"}
+THEMSELVES = "require", "refuse", "take", "take_exactly", "has"
 FEW = 36                          # step of planted faults, without --all
 LONGEST = 20                      # CPU seconds; a source that doesn't end without a check uses them all
 
@@ -35,7 +36,7 @@ def path_of(module):
 
 
 def name_of(module):
-    return "symbolic_terms." + module.split("/")[-1] if module.startswith(".") else "machine_code." + module
+    return "oracle.symbolic_terms." + module.split("/")[-1] if module.startswith(".") else "oracle.machine_code." + module
 
 
 # ---- the checks
@@ -47,8 +48,8 @@ def checks_of(module):
     out = {}
     for function, node in statements(ast.parse(source)):
         if is_check(node):
-            said = " ".join(ast.unparse(node).split())
-            key = f"{name_of(module)} {function}: {said}"
+            code = " ".join(ast.unparse(node).split())
+            key = f"{name_of(module)} {function}: {code}"
             while key in out:
                 key += " again"
             out[key] = node.lineno, node.end_lineno
@@ -113,7 +114,7 @@ class Loader(importlib.abc.MetaPathFinder, importlib.abc.SourceLoader):
 
 def every_text():
     """Returns all planted faults, in a fixed order."""
-    from machine_code import cargo_planted, planted, planted_checks, planted_lines, planted_objects, planted_values, tasks
+    from oracle.machine_code import cargo_planted, planted, planted_checks, planted_lines, planted_objects, planted_values, tasks
     assert tasks
     return [*planted_lines.X86_ASKED, *planted_lines.ARM_ASKED, *planted_lines.X86_ALIKE, *planted_objects.X86_ASKED,
             *planted_objects.ARM_ASKED, *planted.ASKED, *cargo_planted.ASKED, *planted_checks.X86_ASKED, *planted_checks.ARM_ASKED,
@@ -122,7 +123,7 @@ def every_text():
 
 def refusal(one):
     """Returns the refusal of a planted fault, or None."""
-    from symbolic_terms.refusals import REFUSALS
+    from oracle.symbolic_terms.refusals import REFUSALS
     try:
         one.ask()
     except REFUSALS as error:
@@ -133,25 +134,26 @@ def refusal(one):
 def place_of(error, known):
     """Returns the innermost of the known checks in a refusal's traceback, or None."""
     for frame in reversed(traceback.extract_tb((error.__cause__ or error).__traceback__)):
+        file = os.path.normpath(frame.filename)
         for key, (path, first, last) in known.items():
-            if path == frame.filename and first <= frame.lineno <= last:
+            if path == file and first <= frame.lineno <= last:
                 return key
     return None
 
 
-def told_without(cache, module, line, number):
+def output_without(cache, module, line, number):
     """Tests a planted fault in a separate process with the check at a line disabled. Returns its output. The processes
     share the other modules' compiled code, in the folder `cache`."""
-    words = [sys.executable, os.path.abspath(__file__), module, str(line), str(number)]
+    command = [sys.executable, TOP, __name__, "", module, str(line), str(number)]
     known = {**os.environ, "PYTHONPYCACHEPREFIX": cache, "PYTHONDONTWRITEBYTECODE": ""}
-    done = subprocess.run(words, capture_output=True, text=True, env=known)
+    done = subprocess.run(command, capture_output=True, text=True, env=known)
     return "no end" if done.returncode == -signal.SIGXCPU else done.stdout
 
 
-def of_process(module, line, number):
+def main():
+    module, line, number = sys.argv[1:]
     resource.setrlimit(resource.RLIMIT_CPU, (LONGEST, LONGEST + 1))
     sys.meta_path.insert(0, Loader(module, int(line)))
-    sys.path.insert(0, os.path.dirname(HERE))
     print(refusal(every_text()[int(number)]), end="")
     return 0
 
@@ -169,7 +171,7 @@ def unplanted():
         return dict(line.rstrip("\n").split(" | ") for line in file if line.strip() and not line.startswith("#"))
 
 
-def tell(is_all, jobs=1):
+def report(is_all, jobs=1):
     """Returns the number of tested checks, and the messages on the undetected ones. Without `is_all` tests a few."""
     where = {module: checks_of(module) for module in MODULES}
     known = {key: (path_of(module), *lines) for module, found in where.items() for key, lines in found.items()}
@@ -184,14 +186,10 @@ def tell(is_all, jobs=1):
     asked = [(module, found[key][0], *refused[key], key) for module, found in where.items() for key in found if key in refused]
     module, _, number, before, _ = asked[0]
     with tempfile.TemporaryDirectory(prefix="machine-text-") as cache, concurrent.futures.ThreadPoolExecutor(jobs) as pool:
-        if plain(told_without(cache, module, 0, number)) != plain(before):
+        if plain(output_without(cache, module, 0, number)) != plain(before):
             bad.append("with no check switched off the refusal is another")
-        for (*_, before, key), told in zip(asked, pool.map(lambda one: told_without(cache, *one[:3]), asked)):
-            is_noticed = plain(told) != plain(before)
+        for (*_, before, key), output in zip(asked, pool.map(lambda one: output_without(cache, *one[:3]), asked)):
+            is_noticed = plain(output) != plain(before)
             bad += [f"{key}: switched off, and not noticed"] if not is_noticed and key not in listed else []
             bad += [f"{key}: it is noticed, and has a reason"] if is_noticed and key in listed else []
     return len(asked), bad
-
-
-if __name__ == "__main__":
-    sys.exit(of_process(*sys.argv[1:]))

@@ -6,7 +6,7 @@ import struct
 import subprocess
 import tempfile
 
-from symbolic_terms import Unsupported
+from oracle.symbolic_terms import Unsupported
 
 from .object_contents import X86_64, Object
 from .sources import GNU
@@ -22,46 +22,46 @@ assembled = {}
 ARM_CONDITIONS = {name: k for k, name in enumerate("eq ne cs cc mi pl vs vc hi ls ge lt gt le".split())}
 
 
-def rows_of(program):
+def lines_of(program):
     """Yields (section, offset, bytes, text, is relocated) of each instruction."""
-    for section, rows in program.listing.items():
-        for at, raw, text in rows:
+    for section, lines in program.listing.items():
+        for at, raw, text in lines:
             yield section, at, raw, " ".join(REMARK.sub("", text).split()), program.is_relocated(section, at, at + len(raw))
 
 
 def expect_bytes(program):
     """Refuses an instruction whose bytes differ from those of its printed text."""
-    rows = list(rows_of(program))
-    kind, led = ("x86-64", led_on_x86) if program.object.machine == X86_64 else ("aarch64", led_on_arm)
+    lines = list(lines_of(program))
+    arch, led = ("x86-64", led_on_x86) if program.object.machine == X86_64 else ("aarch64", led_on_arm)
     alone, bad = [], []
-    for section, at, raw, text, is_relocated in rows:
-        wanted = led(at, raw, text, is_relocated)
-        if wanted is None:
+    for section, at, raw, text, is_relocated in lines:
+        expected = led(at, raw, text, is_relocated)
+        if expected is None:
             alone.append((section, at, raw, text))
-        elif wanted != raw:
+        elif expected != raw:
             bad.append(f"{section} {at:#x}: {text} of the bytes {raw.hex()}")
-    made = assembled_alone({text for *_, text in alone}, kind)
+    encoded = assembled_alone({text for *_, text in alone}, arch)
     bad += [f"{section} {at:#x}: {text} of the bytes {raw.hex()}" for section, at, raw, text in alone
-            if made[text, kind] != raw.ljust(SLOT, b"\0")]
+            if encoded[text, arch] != raw.ljust(SLOT, b"\0")]
     if bad:
         raise Unsupported(f"{bad[0]}, which aren't its own")
 
 
-def assembled_alone(texts, kind):
-    """Maps (text, kind) of each instruction to its bytes, padded to SLOT bytes. Assembles a text once."""
-    texts = [text for text in sorted(texts) if (text, kind) not in assembled]
-    with tempfile.TemporaryDirectory(prefix="machine-text-") as room:
-        source, made = os.path.join(room, "alone.s"), os.path.join(room, "alone.o")
+def assembled_alone(texts, arch):
+    """Maps (text, arch) of each instruction to its bytes, padded to SLOT bytes. Assembles a text once."""
+    texts = [text for text in sorted(texts) if (text, arch) not in assembled]
+    with tempfile.TemporaryDirectory(prefix="machine-text-") as workdir:
+        source, built = os.path.join(workdir, "alone.s"), os.path.join(workdir, "alone.o")
         with open(source, "w", encoding="utf-8") as file:
-            file.writelines(f"\t{text}\n\t.balign {SLOT},0\n" if kind == "x86-64" else f"\t{text}\n\t.space {SLOT - 4},0\n"
+            file.writelines(f"\t{text}\n\t.balign {SLOT},0\n" if arch == "x86-64" else f"\t{text}\n\t.space {SLOT - 4},0\n"
                             for text in texts)
-        done = subprocess.run([GNU[kind], source, "-o", made], capture_output=True, text=True)
+        done = subprocess.run([GNU[arch], source, "-o", built], capture_output=True, text=True)
         if done.returncode:
             raise Unsupported(f"what was printed isn't assembled: {done.stderr.splitlines()[1:2]}")
-        object_ = Object(made)
-    made = next(object_.body(head) for head in object_.heads if head.name == ".text")
-    slots = (made[k:k + SLOT] for k in range(0, len(made), SLOT))
-    assembled.update({(text, kind): slot for text, slot in zip(texts, slots, strict=True)})
+        object_ = Object(built)
+    built = next(object_.body(head) for head in object_.heads if head.name == ".text")
+    slots = (built[k:k + SLOT] for k in range(0, len(built), SLOT))
+    assembled.update({(text, arch): slot for text, slot in zip(texts, slots, strict=True)})
     return assembled
 
 

@@ -8,10 +8,10 @@ import collections
 import functools
 import itertools
 
-import specs
-from symbolic_terms import (LONGEST, LONGEST_SECRET, REFUSALS, Bytes, Input, NotShown, Poly, Request, at_most,
-                            definition, given, minus, nodes, parts_of, plus, seed_symbol, suppositions, times, value_at,
-                            variable)
+from oracle import specs
+from oracle.symbolic_terms import (LONGEST, LONGEST_SECRET, REFUSALS, Bytes, Input, NotShown, Poly, Request, at_most,
+                                   definition, given, minus, nodes, parts_of, plus, seed_symbol, suppositions, times, value_at,
+                                   variable)
 
 from . import one_shots
 from .induction import Family, Loops
@@ -54,9 +54,9 @@ def derived_cases():
         yield xxh3_case(turns, J, minus(turns, FAR // DERIVED))
 
 
-def cases(kind):
+def cases(algorithm):
     """Returns the cases of XXH32, of XXH64, or of XXH3 without a secret argument."""
-    return list(plain_cases(kind) if kind in UNROLLED else derived_cases())
+    return list(plain_cases(algorithm) if algorithm in UNROLLED else derived_cases())
 
 
 def of_secret():
@@ -165,9 +165,9 @@ class Cases:
 class EveryLength(Cases):
     """Proves the cases of one call of a source: XXH32, XXH64, or XXH3 as in 3-64:seed."""
 
-    def __init__(self, cpu, kind):
+    def __init__(self, cpu, algorithm):
         super().__init__(cpu)
-        self.kind, (self.hash_name, _, self.way) = kind, kind.partition(":")
+        self.algorithm, (self.hash_name, _, self.way) = algorithm, algorithm.partition(":")
 
     def show(self, case, seed=None):
         """Proves a case, with the given seed or a symbolic nonzero one."""
@@ -176,7 +176,7 @@ class EveryLength(Cases):
             ask = self.xxh3 if self.way else self.plain
             ours, theirs = ask(case, source, Bytes(source, 0, case.length), seed)
         if not nodes.is_same(ours, theirs):
-            raise NotShown(f"XXH{self.kind} of {case.length} bytes: another value")
+            raise NotShown(f"XXH{self.algorithm} of {case.length} bytes: another value")
 
     def show_short(self, n):
         """Proves the hash of n bytes, at most 240, with a secret of any length from 136 bytes on."""
@@ -184,7 +184,7 @@ class EveryLength(Cases):
         with given(at_most(request.secret_length, LONGEST_SECRET)):
             ours, theirs = one_shots.of_text(self.cpu, request), request.of_definition(self.texts)
         if not nodes.is_same(ours, theirs):
-            raise NotShown(f"XXH{self.kind} of {n} bytes: another value")
+            raise NotShown(f"XXH{self.algorithm} of {n} bytes: another value")
 
     def plain(self, case, source, message, _):
         width, seed = int(self.hash_name), seed_symbol(self.hash_name)
@@ -215,7 +215,7 @@ class EveryLength(Cases):
 
     def proved(self, ask, case, stripe, count, after):
         """Calls the source, and proves its loops for a case's length."""
-        family = Family(f"XXH{self.kind} of {case.length} bytes", stripe, case.stripes, count, after,
+        family = Family(f"XXH{self.algorithm} of {case.length} bytes", stripe, case.stripes, count, after,
                         lambda k, values: suppositions.suppose(after(k), values), self.cpu.TOGETHER)
         loops = Loops(self.cpu.program, family, guesses=self.guesses)
         return self.with_loops(loops, ask) if isinstance(case.length, Poly) else ask()

@@ -5,7 +5,7 @@ import re
 import shutil
 import subprocess
 
-from tools import TOP, must, text_of, write
+from checks.lib.tools import TOP, must, text_of, write
 
 from .instructions import V3, V4
 from .objects import Immediate, Register
@@ -29,11 +29,11 @@ class Library:
         source = FAR_JUMP.sub(lambda jump: f"\t{JUMPS[int(jump[1])]} {jump[2]}\n", text_of(self.source))
         self.lines = source.split("\n")
         self.line_at = lines_of(program, self.lines)
-        words = f"{C}/checks/calls.c", "-DXXH_STATIC_LINKING_ONLY", "-pthread"
-        self.calls = [*self.emulator, self.compiled("calls", *words)]
+        options = f"{C}/checks/calls.c", "-DXXH_STATIC_LINKING_ONLY", "-pthread"
+        self.calls = [*self.emulator, self.compiled("calls", *options)]
 
-    def compiled(self, name, *words):
-        must([f"{self.tools}gcc", "-O2", "-I", f"{C}/include", *words, "-o", os.path.join(self.folder, name)])
+    def compiled(self, name, *args):
+        must([f"{self.tools}gcc", "-O2", "-I", f"{C}/include", *args, "-o", os.path.join(self.folder, name)])
         return os.path.join(self.folder, name)
 
     def first_difference(self, before, after):
@@ -55,9 +55,9 @@ class Library:
         folders = [f"{part}={self.folder}/{part}" for part in ("asm", "out", "lib")]
         must(["make", "-s", "-C", C, f"CC={self.tools}gcc", *folders])
         above = f"glibc-hwcaps/{self.name}/" if self.name in (V3, V4) else ""
-        words = [*self.calls, self.reference, f"{self.folder}/lib/{above}libxxhash.so.0", str(CALLS)]
+        command = [*self.calls, self.reference, f"{self.folder}/lib/{above}libxxhash.so.0", str(CALLS)]
         try:
-            done = subprocess.run(words, capture_output=True, text=True, timeout=SECONDS)
+            done = subprocess.run(command, capture_output=True, text=True, timeout=SECONDS)
         except subprocess.TimeoutExpired:
             return "the calls do not end"
         if done.returncode == 2:

@@ -1,6 +1,6 @@
 """Lists the exports of the sources for C with the beginnings of the titles of tasks that prove them. A source with
 another name, or without one of these, fails."""
-from symbolic_terms import NotShown
+from oracle.symbolic_terms import NotShown
 
 from . import streams
 from .cargo_exports import shared
@@ -19,8 +19,8 @@ def shown_by(program=None):
     for name in ("32", "64", "3"):
         out.update({f"XXH{name}_copyState": "copies of states", f"twox_c_forget_xxh{name}": FORGET})
     for hash_name, name in NAMES.items():
-        kinds = ["seed"] if is_plain(hash_name) else WAYS
-        out.update({name + ("" if is_plain(hash_name) else WAYS[kind]): f"XXH{hash_name}, {kind}" for kind in kinds})
+        variants = ["seed"] if is_plain(hash_name) else WAYS
+        out.update({name + ("" if is_plain(hash_name) else WAYS[variant]): f"XXH{hash_name}, {variant}" for variant in variants})
         ways = ["reset", "update", "digest", *([] if is_plain(hash_name) else ["reset_withSeed"])]
         out.update({f"{streams.proved(hash_name)}_{way}": STREAMS for way in ways})
     ways = "reset_xxh3_secret", "reset_xxh3_secret_and_seed", "update_xxh3", "digest_64", "digest_128"

@@ -7,13 +7,13 @@
 import collections
 import operator
 
-from symbolic_terms import (OPAQUE, TESTS, Node, Undecided, Unsupported, is_natural, is_number, is_same_number, lifted,
-                            minus, operations, plus)
+from oracle.symbolic_terms import (OPAQUE, TESTS, Node, Undecided, Unsupported, is_natural, is_number, is_same_number, lifted,
+                                   minus, operations, plus)
 
 from .memory import ENTRY, lie_apart
 from .values import Address, Either, quotients
 
-Flags = collections.namedtuple("Flags", "kind width a b result")
+Flags = collections.namedtuple("Flags", "op width a b result")
 FAR = 1 << 62                     # no object reaches this address
 SIGNED = {"l": operator.lt, "ge": operator.ge, "g": operator.gt, "le": operator.le}
 
@@ -29,7 +29,7 @@ def condition(cpu, name):
     if name not in ("a", "be"):
         raise Unsupported(f"the condition {name}")
     now = cpu.flags
-    if now and now.kind == "sub" and now is cpu.carry and is_number(now.a) and is_number(now.b):
+    if now and now.op == "sub" and now is cpu.carry and is_number(now.a) and is_number(now.b):
         return TESTS["le"](now.a, now.b) == (name == "be")
     return (carry(cpu) or is_zero(cpu)) == (name == "be")
 
@@ -37,9 +37,9 @@ def condition(cpu, name):
 def signed_operands(cpu):
     """Returns the operands of the last comparison, as signed numbers."""
     now = cpu.flags
-    if not now or now.kind not in ("sub", "logic"):
+    if not now or now.op not in ("sub", "logic"):
         raise Unsupported("a signed comparison of another result")
-    both = (now.a, now.b) if now.kind == "sub" else (now.result, 0)
+    both = (now.a, now.b) if now.op == "sub" else (now.result, 0)
     if not all(isinstance(x, int) for x in both):
         raise Undecided("a signed comparison of symbols")
     limit = 1 << now.width
@@ -49,11 +49,11 @@ def signed_operands(cpu):
 def carry(cpu):
     """True if there was a carry or a borrow. Decided only for numbers."""
     now = cpu.carry
-    if now is None or now.kind == "shift":
+    if now is None or now.op == "shift":
         raise Unsupported("a carry that isn't set")
-    if now.kind == "logic":
+    if now.op == "logic":
         return False
-    if now.kind == "add":
+    if now.op == "add":
         if not (is_number(now.a) and is_number(now.b)):
             raise Undecided("the carry of a sum of symbols")
         return TESTS["ge"](plus(now.a, now.b), 1 << now.width)
@@ -64,7 +64,7 @@ def is_zero(cpu):
     now = cpu.flags
     if now is None:
         raise Unsupported("flags that aren't set")
-    if now.kind == "sub":
+    if now.op == "sub":
         return is_equal(cpu, now.a, now.b)
     return is_equal(cpu, now.result, 0)
 
@@ -88,7 +88,7 @@ def is_not_zero(cpu, x):
     """True if a term is assumed to be nonzero, or is an `or` with such a term."""
     if any(x is other for other in cpu.not_zero):
         return True
-    is_either = isinstance(x, Node) and x.kind is OPAQUE and x.parts[0] == "or"
+    is_either = isinstance(x, Node) and x.op is OPAQUE and x.parts[0] == "or"
     return is_either and any(is_not_zero(cpu, part) for part in x.parts[1:])
 
 

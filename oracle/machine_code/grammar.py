@@ -6,14 +6,14 @@ A source is a comment, an optional guard, functions and constants, the guard's e
 is one section: its name, then instructions, labels and frames without a gap."""
 import re
 
-from symbolic_terms import Unsupported
+from oracle.symbolic_terms import Unsupported
 
 NAME = r"[A-Za-z_][A-Za-z0-9_]*(?:\.[A-Za-z0-9_]+)*"
 LABEL = r"\.L[0-9]+_[0-9a-f]+(?:\.[A-Za-z0-9_]+)?"
 HEX, DECIMAL = "0x[0-9a-f]{1,16}", "(?:0|[1-9][0-9]*)"
 COMMENT = r"/\* [A-Za-z0-9 ,.:_-]* \*/"
 FRAME = rf"\t\.cfi_(?:def_cfa_offset {DECIMAL}|offset {DECIMAL}, -?{DECIMAL}|restore {DECIMAL})"
-WORDS = rf"\t\.quad {HEX}(?:,{HEX})*", rf"\t\.byte {DECIMAL}(?:,{DECIMAL})*"
+NUMBERS = rf"\t\.quad {HEX}(?:,{HEX})*", rf"\t\.byte {DECIMAL}(?:,{DECIMAL})*"
 CONSTANTS = r'\t\.section (\.rodata(?:\.[A-Za-z0-9_]+)*),(?:"a",@progbits|"aM",@progbits,(?:4|8|16|32))'
 ALIGNED = r"\t\.p2align [0-6]"
 STACK = '\t.section .note.GNU-stack,"",@progbits'
@@ -41,7 +41,7 @@ ARM_OPERAND = rf"(?:{WORD}|{VECTOR}|{NUMBER}|{PLACE}|(?:lsl|lsr|ror) #{DECIMAL}|
 ARM = "|".join(["ret|nop", rf"(?:bl?|b\.[a-z]{{2}}) (?:{LABEL}|{NAME})",
                 rf"(?:cbn?z|tbn?z|adrp) {WORD}, (?:#{DECIMAL}, )?{LABEL}",
                 rf"(?!b |bl |cb|tb|adrp)[a-z][a-z0-9]* {ARM_OPERAND}(?:, {ARM_OPERAND}){{0,4}}", r"\.inst 0x[0-9a-f]{8}"])
-KINDS = {"x86-64": (X86, SHADOW_STACK), "aarch64": (ARM, ())}     # the instructions, and the notes at the end
+GRAMMARS = {"x86-64": (X86, SHADOW_STACK), "aarch64": (ARM, ())}     # the instructions, and the notes at the end
 
 
 # ---- a source
@@ -60,8 +60,8 @@ class Lines:
     def next_one(self):
         return self.lines[self.number - 1] if self.number <= len(self.lines) else ""
 
-    def refuse(self, wanted):
-        raise Unsupported(f"{self.path.rsplit('/', 1)[-1]}:{self.number}: not of the grammar, which wants {wanted} here: "
+    def refuse(self, expected):
+        raise Unsupported(f"{self.path.rsplit('/', 1)[-1]}:{self.number}: not of the grammar, which wants {expected} here: "
                           f"{self.next_one()[:80]!r}")
 
     def has(self, pattern):
@@ -70,17 +70,17 @@ class Lines:
         self.number += bool(found)
         return found
 
-    def take(self, pattern, wanted):
-        return self.has(pattern) or self.refuse(wanted)
+    def take(self, pattern, expected):
+        return self.has(pattern) or self.refuse(expected)
 
     def take_exactly(self, *lines):
         for line in lines:
             self.take(re.escape(line), line.strip())
 
 
-def expect_grammar(path, kind):
+def expect_grammar(path, arch):
     """Refuses a source that doesn't follow the grammar, with the number of the first wrong line."""
-    lines, sections, (instructions, notes) = Lines(path), set(), KINDS[kind]
+    lines, sections, (instructions, notes) = Lines(path), set(), GRAMMARS[arch]
     lines.take(COMMENT, "a comment of one line")
     guard = lines.has(rf"\t\.ifndef ({NAME})")
     guarded, weak = lines.number - 1, set()
@@ -126,9 +126,9 @@ def take_function(lines, instructions, name):
 
 
 def take_constants(lines):
-    lines.take("|".join([f"{LABEL}:", *WORDS]), "a label or words")
+    lines.take("|".join([f"{LABEL}:", *NUMBERS]), "a label or words")
     expect_bytes(lines)
-    while lines.has("|".join([f"{LABEL}:", *WORDS])):
+    while lines.has("|".join([f"{LABEL}:", *NUMBERS])):
         expect_bytes(lines)
 
 

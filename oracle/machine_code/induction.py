@@ -7,8 +7,8 @@ dropped. The flags are unset at a loop head."""
 import contextlib
 import functools
 
-from symbolic_terms import (REFUSALS, RUNS, Induction, Input, Node, NotShown, Undecided, divided, given, is_natural,
-                            is_number, is_same_number, minus, plus, same, step_between, times)
+from oracle.symbolic_terms import (REFUSALS, RUNS, Induction, Input, Node, NotShown, Undecided, divided, given, is_natural,
+                                   is_number, is_same_number, minus, plus, same, step_between, times)
 
 from .values import Address, half_of, joined, with_half
 
@@ -35,10 +35,10 @@ class Family:
             self.known[key] = self.cell([self.after(k)(i) for i in range(n * j, n * j + n)])
         return self.known[key]
 
-    def cell(self, words):
-        return words[0] if self.together == 1 else joined(*((word, 32) for word in words))
+    def cell(self, values):
+        return values[0] if self.together == 1 else joined(*((word, 32) for word in values))
 
-    def words(self, k):
+    def values_after(self, k):
         return [self.word(k, j) for j in range(self.cell_count())]
 
     def cell_count(self):
@@ -71,12 +71,12 @@ def named(cell):
 
 
 def name_of(cell):
-    kind, *where = cell
-    if kind in ("register", HALF):
+    holder, *where = cell
+    if holder in ("register", HALF):
         return where[0]
-    if kind == "lane":
+    if holder == "lane":
         return f"v{where[0]}[{where[1]}]"
-    return f"{kind} {where[0]}" if isinstance(kind, str) else f"{kind.name}[{where[0]}]"
+    return f"{holder} {where[0]}" if isinstance(holder, str) else f"{holder.name}[{where[0]}]"
 
 
 # ---- loop heads
@@ -230,13 +230,13 @@ class Proof(Induction):
     def stripes_after(self, k):
         return plus(self.first, times(self.step, k))
 
-    def said(self, k):
-        return self.family.words(self.stripes_after(k))
+    def defined(self, k):
+        return self.family.values_after(self.stripes_after(k))
 
     def supposed(self, k):
         family, width, after = self.family, 32 if self.family.stripe == 16 else 64, self.stripes_after(k)
         if isinstance(after, int):
-            return family.words(after)
+            return family.values_after(after)
         values = [self.cpu.fresh("word", width) for _ in range(family.count)]
         family.suppose(after, values)
         return [family.cell(values[k:k + family.together]) for k in range(0, family.count, family.together)]
@@ -264,32 +264,32 @@ class Proof(Induction):
 
     def may_hold_anything(self, cell):
         """True if another cell has the same word, or this one has none."""
-        return list(self.words.values()).count(self.words.get(cell)) != 1
+        return list(self.indices.values()).count(self.indices.get(cell)) != 1
 
     # ---- guesses
 
     def known(self):
         """Returns the proved facts of the loop, with cells named so that another call can use them."""
         steps = {named(cell): step for cell, (_, step) in self.places.items()}
-        return self.step, {named(cell): j for cell, j in self.words.items()}, steps, {*map(named, self.unset)}
+        return self.step, {named(cell): j for cell, j in self.indices.items()}, steps, {*map(named, self.unset)}
 
     def guess_again(self, first):
         """Reuses the facts proved in another call. True if the words are in their cells at the start."""
         if self.head not in self.loops.guesses:
             return False
-        self.step, words, steps, unset = self.loops.guesses[self.head]
+        self.step, values, steps, unset = self.loops.guesses[self.head]
         objects = {memory.name: memory for memory in [self.cpu.stack, *self.cpu.live]}
         self.unset = {(objects.get(name[0], name[0]), *name[1:]) for name in unset}
-        begun = self.family.words(first)
+        begun = self.family.values_after(first)
         for cell, x in self.start.items():
             name = named(cell)
-            if name in words and same(x, begun[words[name]]):
-                self.words[cell] = words[name]
+            if name in values and same(x, begun[values[name]]):
+                self.indices[cell] = values[name]
             elif name in steps and (isinstance(x, Address) or is_number(x)):
                 self.places[cell] = x, steps[name]
-            elif name in words or name in steps:
+            elif name in values or name in steps:
                 self.unset.add(cell)
-        return len({*self.words.values()}) == len(begun)
+        return len({*self.indices.values()}) == len(begun)
 
     def guess_of(self, is_twice, first):
         return any(self.guess(first, turns, is_twice) for turns in FIRST_TURNS)
@@ -310,7 +310,7 @@ class Proof(Induction):
         finally:
             self.loops.is_guessing = False
         twice, changed = self.state() if is_twice else None, self.changed(once)
-        if not self.guess_words(first, changed, once):
+        if not self.guess_indices(first, changed, once):
             return False
         self.guess_places(changed, once, twice)
         return True
@@ -321,13 +321,13 @@ class Proof(Induction):
                  if isinstance(once.get(cell), Address)}
         return [step for step in STEPS if any(is_same_number(x, step * self.family.stripe) for x in moves)] or STEPS
 
-    def guess_words(self, first, changed, once):
+    def guess_indices(self, first, changed, once):
         """Finds the cells that hold the words at the start, and those `step` stripes later after an iteration."""
-        words = self.family.words(first)
+        values = self.family.values_after(first)
         for self.step in self.steps(changed, once):
-            then = self.family.words(plus(first, self.step))
-            self.words = {cell: j for cell in changed for j, (x, y) in enumerate(zip(words, then))
-                          if same(self.start.get(cell), x) and same(once.get(cell), y)}
-            if len({*self.words.values()}) == len(words):
+            then = self.family.values_after(plus(first, self.step))
+            self.indices = {cell: j for cell in changed for j, (x, y) in enumerate(zip(values, then))
+                            if same(self.start.get(cell), x) and same(once.get(cell), y)}
+            if len({*self.indices.values()}) == len(values):
                 return True
         return False

@@ -6,7 +6,7 @@ table is refused. scalar.py and lanes.py fill it: each entry is a function of th
 returns the next instruction's place if that isn't the following one. `form` also passes it the operands."""
 import functools
 
-from symbolic_terms import Unsupported
+from oracle.symbolic_terms import Unsupported
 
 from .objects import Immediate, Place, Register
 
@@ -36,14 +36,14 @@ VECTORS = {f"{letter}mm{k}": k for letter in "xyz" for k in range(32)}
 OLDER = 16                                 # number of vector registers before x86-64-v4
 
 
-def form(kind, mnemonics, letters):
+def form(level, mnemonics, letters):
     """Returns a decorator that adds a function to the table for the given mnemonics, letters and instruction set."""
     def put(function):
         def run(cpu, x):
             return function(cpu, x, *x.operands)
         for mnemonic in mnemonics.split():
             for one in letters.split() or [""]:
-                TABLE[mnemonic, one] = kind, run
+                TABLE[mnemonic, one] = level, run
         return function
     return put
 
@@ -75,8 +75,8 @@ def needs_v4(instruction):
 def known(instruction, processor):
     """Returns the function for an instruction, or raises if the processor lacks it."""
     key = instruction.mnemonic, letters(instruction)
-    kind, function = TABLE.get(key, (None, None))
-    if kind not in SETS[processor] or needs_v4(instruction) and V4 not in SETS[processor]:
+    level, function = TABLE.get(key, (None, None))
+    if level not in SETS[processor] or needs_v4(instruction) and V4 not in SETS[processor]:
         raise Unsupported(f"{instruction.section} {instruction.at:#x}: the instruction {' '.join(key)}, "
                           f"which {processor} hasn't here")
     return function

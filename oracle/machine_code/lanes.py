@@ -1,6 +1,6 @@
 """Semantics of vector instructions. A register of 512 bits is eight lanes of 64 bits, each a value. The older forms
 keep a register's upper lanes and require aligned memory; forms with a `v` set these lanes to 0."""
-from symbolic_terms import Unsupported, plus
+from oracle.symbolic_terms import Unsupported, plus
 
 from .instructions import OLDER, V1, V2, V3, V4, VECTORS, form
 from .objects import Register
@@ -54,9 +54,9 @@ def halves(lane):
     return bits(lane, 0, 32), bits(lane, 32, 32)
 
 
-def of_halves(words):
+def of_halves(parts):
     """Joins 32-bit words into lanes."""
-    return [joined((words[k], 32), (words[k + 1], 32)) for k in range(0, len(words), 2)]
+    return [joined((parts[k], 32), (parts[k + 1], 32)) for k in range(0, len(parts), 2)]
 
 
 # ---- moves
@@ -108,8 +108,8 @@ def extract_part(cpu, x, k, source, to):
 def insert_half(cpu, x, k, source, other, to):
     count = lanes_count(x) // 2
     at = count * (k.value & 1)
-    half, kept = read(cpu, source, x, count), cpu.lanes(other, count, count - at)
-    write(cpu, to, x, half + kept if not at else kept + half)
+    half, others = read(cpu, source, x, count), cpu.lanes(other, count, count - at)
+    write(cpu, to, x, half + others if not at else others + half)
 
 
 @form(V3, "vpbroadcastq", "mx my xy xx")
@@ -206,8 +206,8 @@ def logic_of_three(cpu, x, table, c, b, a):
 def shuffle(cpu, x, order, source, to):
     lanes, out = read(cpu, source, x, lanes_count(x)), []
     for first in range(0, len(lanes), 2):
-        words = [word for lane in lanes[first:first + 2] for word in halves(lane)]
-        out += of_halves([words[order.value >> 2 * k & 3] for k in range(4)])
+        parts = [word for lane in lanes[first:first + 2] for word in halves(lane)]
+        out += of_halves([parts[order.value >> 2 * k & 3] for k in range(4)])
     write(cpu, to, x, out)
 
 
@@ -216,8 +216,8 @@ def shuffle(cpu, x, order, source, to):
 def shuffle_two(cpu, x, order, second, first, *_):
     """Selects two words of the first source, and two of the second."""
     first, second = ([word for lane in cpu.lanes(y, 2) for word in halves(lane)] for y in (first, second))
-    words = [(first if k < 2 else second)[order.value >> 2 * k & 3] for k in range(4)]
-    write(cpu, x.operands[-1], x, of_halves(words))
+    parts = [(first if k < 2 else second)[order.value >> 2 * k & 3] for k in range(4)]
+    write(cpu, x.operands[-1], x, of_halves(parts))
 
 
 @form(V1, "punpckldq", "xx mx")

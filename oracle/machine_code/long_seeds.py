@@ -1,10 +1,10 @@
 """Proves the secrets generated from seeds of 2 ^ 32 bytes and more, by induction over the loops of their hash. For such
 lengths a source divides positions with another instruction."""
-from symbolic_terms import (LONGEST, Bytes, Input, NotShown, at_most, definition, given, is_same, minus, suppositions,
-                            variable)
+from oracle.symbolic_terms import (LONGEST, Bytes, Input, NotShown, at_most, definition, given, is_same, minus, suppositions,
+                                   variable)
 
 from .every_length import TURNS, EveryLength, xxh3_case
-from .memory import Words
+from .memory import WordMemory
 from .streams import OK, expect_answer
 from .values import address
 
@@ -29,17 +29,17 @@ class LongSeeds(EveryLength):
             source = Input("m", case.length)
             message, default = Bytes(source, 0, case.length), self.texts["default_secret"]()
             after = self.texts["Long.accumulator_after"]
-            room = Words("secret", size, [(k, 1, self.cpu.fresh("a byte", 8)) for k in range(size)], alignment=1)
-            self.cpu.not_zero, self.cpu.live = [], [room]
-            answer = self.proved(lambda: self.cpu.call(MAKE, address(room), size, address(source), case.length),
+            buffer = WordMemory("secret", size, [(k, 1, self.cpu.fresh("a byte", 8)) for k in range(size)], alignment=1)
+            self.cpu.not_zero, self.cpu.live = [], [buffer]
+            answer = self.proved(lambda: self.cpu.call(MAKE, address(buffer), size, address(source), case.length),
                                  case, 64, 8, lambda k: lambda i: after(default, message, i, k))
             expect_answer(answer, OK)
-            made = self.texts["generated_secret"](message, size)
-            if not all(is_same(room.load(k, 1), byte) for k, byte in zip(range(size), made, strict=True)):
+            expected = self.texts["generated_secret"](message, size)
+            if not all(is_same(buffer.load(k, 1), byte) for k, byte in zip(range(size), expected, strict=True)):
                 raise NotShown(f"a secret of {size} bytes of {case.length}: another value")
 
 
-def made_secrets(cpu, sizes):
+def generated_secrets(cpu, sizes):
     """Proves the secrets of these sizes, and returns their number."""
     proof = LongSeeds(cpu)
     for size in sizes:

@@ -5,11 +5,11 @@ everything below the stack pointer: there is no red zone across a call."""
 import collections
 import contextlib
 
-from symbolic_terms import (Input, Memory, Node, Poly, Undecided, Unsupported, divided, is_inside, is_natural,
-                            is_same_number, lifted, minus, ones, plus, taken)
-from symbolic_terms.nodes import memo
-from symbolic_terms.operations import bits
-from symbolic_terms.polynomials import WORD
+from oracle.symbolic_terms import (Input, Memory, Node, Poly, Undecided, Unsupported, divided, is_inside, is_natural,
+                                   is_same_number, lifted, minus, ones, plus, taken)
+from oracle.symbolic_terms.nodes import memo
+from oracle.symbolic_terms.operations import bits
+from oracle.symbolic_terms.polynomials import WORD
 
 from .values import place_of
 
@@ -24,7 +24,7 @@ spelled = memo()
 ReturnTo = collections.namedtuple("ReturnTo", "section at")
 
 
-class Words(Memory):
+class WordMemory(Memory):
     """Memory object whose cells hold values of registers. Parts of addresses can't be loaded."""
 
     def allow(self, at, n):
@@ -79,7 +79,7 @@ class Words(Memory):
         super().clear(at, n)
 
 
-class OnlyRead(Words):
+class OnlyRead(WordMemory):
     """Memory object that a call may only read. Two such objects may overlap."""
 
     def allow(self, at, n):
@@ -93,10 +93,10 @@ class Constants(OnlyRead):
 
 def lie_apart(first, second):
     """True if two objects are disjoint: one of them is writable."""
-    return any(isinstance(memory, Words) and not isinstance(memory, OnlyRead) for memory in (first, second))
+    return any(isinstance(memory, WordMemory) and not isinstance(memory, OnlyRead) for memory in (first, second))
 
 
-class Stack(Words):
+class Stack(WordMemory):
     """The stack below the caller's frame. `lowest` is the lowest stored offset."""
 
     def __init__(self):

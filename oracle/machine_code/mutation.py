@@ -17,8 +17,8 @@ import os
 import random
 import tempfile
 
-from reasons import CRASH, UNNOTICED, Called, Reasons, is_fault
-from symbolic_terms import definition, nodes
+from oracle.reasons import CRASH, UNNOTICED, Called, Reasons, is_fault
+from oracle.symbolic_terms import definition, nodes
 
 from .executions import Library
 from .instructions import PARTS, SETS, TABLE, VECTORS, letters
@@ -29,7 +29,7 @@ from .queries import FOR_C, Call, are_long, by_induction, further, near, queries
 FOLDER = os.path.join(os.path.dirname(os.path.abspath(__file__)), "equivalent_mutants")
 LIMIT = 40_000                   # instructions of a changed source's call
 MOST, NEAR, FEWEST = 200, 40, 10  # shortest requests; generated requests near them; requests tested on symbols
-DRAWS = 10                        # random seeds with --all; one otherwise
+SEEDS = 10                        # random seeds with --all; one otherwise
 TASKS = 4                          # tasks into which the changes of the sources for ARM are split, with --all
 IDLE = "nop", "prefetcht0", "vzeroupper", "ud2"
 ALIKE = [("je", "jne"), ("jb", "jbe"), ("ja", "jae"), ("jb", "jae"), ("sete", "setne"), ("cmovb", "cmovae"),
@@ -41,63 +41,63 @@ ALIKE = [("je", "jne"), ("jb", "jbe"), ("ja", "jae"), ("jb", "jae"), ("sete", "s
 
 # ---- outcome of a change
 
-def outcome(cpu, instructions, asked, draw, near_to, more):
+def outcome(cpu, instructions, asked, rng, near_to, more):
     """Returns the outcome of changed instructions: tests the requests that run them, requests near those, a few on
     symbols, and `more` queries. If only long requests run them, `more` comes first. A query that detects a change
     must accept the unchanged source: otherwise its result says nothing about the change."""
     before = [cpu.program.sections[x.section][x.at] for x in instructions]
     requests = [query for query in asked if query.request]
-    few = draw.sample(requests[:MOST], min(FEWEST, len(requests[:MOST])))
-    with_near = itertools.chain(requests, near_to(requests, draw=draw))
+    few = rng.sample(requests[:MOST], min(FEWEST, len(requests[:MOST])))
+    with_near = itertools.chain(requests, near_to(requests, rng=rng))
     by_requests = itertools.chain((query.twice for query in with_near), (query.over_symbols for query in few))
     ways = itertools.chain(*((more, by_requests) if are_long(requests) else (by_requests, more)))
     try:
         for x in instructions:
             cpu.change(x)
-        told, ask = next(((told, ask) for ask in ways if (told := ask(cpu))), (UNNOTICED, None))
+        message, ask = next(((message, ask) for ask in ways if (message := ask(cpu))), (UNNOTICED, None))
     finally:
         for x in before:
             cpu.change(x)
     refused = ask and ask(cpu)
-    return f"{CRASH}: {ask.__self__.title} refuses the text as it is: {refused}" if refused else told
+    return f"{CRASH}: {ask.__self__.title} refuses the text as it is: {refused}" if refused else message
 
 
 # ---- changes
 
-def other_register(name, draw):
+def other_register(name, rng):
     if name in VECTORS:
-        return f"{name[:3]}{(VECTORS[name] + draw.randrange(1, 16)) % 16}"
+        return f"{name[:3]}{(VECTORS[name] + rng.randrange(1, 16)) % 16}"
     whole, first, width = PARTS[name]
-    return draw.choice([other for other, (to, at, n) in PARTS.items() if (at, n) == (first, width) and
-                        to not in (whole, "rsp")] or [name])
+    return rng.choice([other for other, (to, at, n) in PARTS.items() if (at, n) == (first, width) and
+                       to not in (whole, "rsp")] or [name])
 
 
 def with_operand(x, k, operand):
     return x._replace(operands=(*x.operands[:k], operand, *x.operands[k + 1:]))
 
 
-def of_operand(x, k, draw):
+def of_operand(x, k, rng):
     """Yields replacements of one operand: (description, instruction)."""
     operand = x.operands[k]
     if isinstance(operand, Register):
-        yield "register", with_operand(x, k, Register(other_register(operand.name, draw)))
+        yield "register", with_operand(x, k, Register(other_register(operand.name, rng)))
     elif isinstance(operand, Immediate):
-        yield "number", with_operand(x, k, Immediate(operand.value + draw.choice((1, -1))))
+        yield "number", with_operand(x, k, Immediate(operand.value + rng.choice((1, -1))))
         if operand.value > 255:
-            bit = 1 << draw.randrange(operand.value.bit_length())
+            bit = 1 << rng.randrange(operand.value.bit_length())
             yield "number", with_operand(x, k, Immediate(operand.value ^ bit))
     elif operand.base == "rip":
         yield "constant", x._replace(target=(x.target[0], x.target[1] + 8))
     else:
-        further = operand.displacement + draw.choice((1, -1, 8, -8, 16))
+        further = operand.displacement + rng.choice((1, -1, 8, -8, 16))
         yield "displacement", with_operand(x, k, operand._replace(displacement=further))
         if operand.base:
-            yield "base", with_operand(x, k, operand._replace(base=other_register(operand.base, draw)))
+            yield "base", with_operand(x, k, operand._replace(base=other_register(operand.base, rng)))
         if operand.index:
             yield "scale", with_operand(x, k, operand._replace(scale=operand.scale % 8 * 2 or 1))
 
 
-def of_instruction(x, draw):
+def of_instruction(x, rng):
     """Yields all changes of one instruction: (description, instructions)."""
     yield "left out", [x._replace(mnemonic="nop", operands=(), target=None)]
     for pair in ALIKE:
@@ -106,14 +106,14 @@ def of_instruction(x, draw):
                 if x.mnemonic == prefix + name:
                     yield f"{prefix}{other}", [x._replace(mnemonic=prefix + other)]
     for k in range(len(x.operands)):
-        yield from ((what, [changed]) for what, changed in of_operand(x, k, draw))
+        yield from ((what, [changed]) for what, changed in of_operand(x, k, rng))
 
 
 def swapped(x, y):
     """Yields the swap of two neighbours, if the second uses the result of the first."""
     is_plain = all(z.target is None and z.operands and z.mnemonic not in ("push", "pop") for z in (x, y))
-    made = x.operands[-1] if is_plain else None
-    if isinstance(made, Register) and made in y.operands[:-1] and made != y.operands[-1]:
+    result = x.operands[-1] if is_plain else None
+    if isinstance(result, Register) and result in y.operands[:-1] and result != y.operands[-1]:
         yield "after the next", [y._replace(at=x.at, end=x.end), x._replace(at=y.at, end=y.end)]
 
 
@@ -125,11 +125,11 @@ def anywhere(_):
     return True
 
 
-def drawn(cpu, is_drawn, places, draw):
+def random_changes(cpu, is_selected, places, rng):
     """Yields (place, text, instructions) of random changes in some sections. The order depends only on functions and
     instructions: an unchanged function gets the same changes, whatever happens to the others."""
-    salt, kept = draw.getrandbits(32), {place for place in places if is_drawn(place[0])}
-    for key, place in sorted((key, place) for key, place in keys(cpu, kept, salt) if place in kept):
+    salt, selected = rng.getrandbits(32), {place for place in places if is_selected(place[0])}
+    for key, place in sorted((key, place) for key, place in keys(cpu, selected, salt) if place in selected):
         yield from changed_at(cpu, place, random.Random(key))
 
 
@@ -143,16 +143,16 @@ def keys(cpu, places, salt):
         yield hashlib.sha256(f"{salt} {what} {seen[what]}".encode()).hexdigest(), (section, at)
 
 
-def changed_at(cpu, place, draw):
+def changed_at(cpu, place, rng):
     """Yields a random change at a place, or nothing. Instructions that compute nothing aren't changed."""
     section, at = place
     x = cpu.program.sections[section][at]
     if x.mnemonic in IDLE:
         return
-    ways = list(of_instruction(x, draw))
+    ways = list(of_instruction(x, rng))
     if x.end in cpu.program.sections[section]:
         ways += swapped(x, cpu.program.sections[section][x.end])
-    what, instructions = draw.choice(ways)
+    what, instructions = rng.choice(ways)
     if all(is_form(y, cpu.name) for y in instructions) and instructions != [x]:
         title = cpu.program.title_of(section)[len(TEXT):]
         text = f"{title} {written(x)}: {what} {'; '.join(map(written, instructions))} (at {at:#x})"
@@ -187,15 +187,15 @@ def more_ways(cpu, reached, asked, entries, is_all, section, beside):
     yield from (Call(call).over_symbols for call in beside.more(cpu))
 
 
-def noticed(name, make, count, is_all, is_drawn=anywhere, beside=FOR_C):
-    """Returns the number of tested changes of a source, the failures, and remarks. `is_drawn` selects the sections."""
+def noticed(name, make, count, is_all, is_selected=anywhere, beside=FOR_C):
+    """Returns the number of tested changes of a source, the failures, and remarks. `is_selected` selects the sections."""
     cpu = make()
-    some = of_draws(functools.partial(drawn, cpu, is_drawn), count, DRAWS if is_all else 1)
+    some = of_seeds(functools.partial(random_changes, cpu, is_selected), count, SEEDS if is_all else 1)
     if beside is FOR_C:
         return noticed_by_library(name, cpu, some, is_all)
     known = Reasons(os.path.join(FOLDER, f"{name}.txt"))
     texts, bad = noticed_of(cpu, some, known, is_all, beside)
-    return len(texts), bad + [f"no change needs the reason of {words}" for words in (known.unused(texts) if is_all else ())]
+    return len(texts), bad + [f"no change needs the reason of {pattern}" for pattern in (known.unused(texts) if is_all else ())]
 
 
 def noticed_by_library(name, cpu, changes, is_all):
@@ -207,10 +207,10 @@ def noticed_by_library(name, cpu, changes, is_all):
         return noticed_by_calls(cpu, changes, is_all, call)
 
 
-def of_draws(one, count, draws=1):
-    """Returns a function of places, as `noticed_of` takes it: `count` changes of each of `draws` random seeds."""
+def of_seeds(one, count, seeds=1):
+    """Returns a function of places, as `noticed_of` takes it: `count` changes of each of `seeds` random seeds."""
     return lambda places: itertools.chain.from_iterable(
-        itertools.islice(one(places, random.Random(1 + number)), count) for number in range(draws))
+        itertools.islice(one(places, random.Random(1 + number)), count) for number in range(seeds))
 
 
 def part_of(changes, part):
@@ -225,7 +225,7 @@ def noticed_by_calls(cpu, changes, is_all, call):
     for text, instructions, what in tested(cpu, changes, is_all, FOR_C):
         what = called.outcome(what, functools.partial(call, text, instructions))
         count, bad = count + 1, bad + [f"{what}: {text}"] * is_fault(what, False)
-    return count, bad + called.faults(), called.told()
+    return count, bad + called.faults(), called.summary()
 
 
 def noticed_of(cpu, changes, known, is_all, beside=FOR_C):

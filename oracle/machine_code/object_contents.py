@@ -1,16 +1,12 @@
 """Checks the contents of a source's object: sections by name, kind, flags and alignment, symbols by kind, binding and
 visibility, and the one note. A linker or a loader may handle anything else in its own way."""
-import os
 import re
 import struct
-import sys
 
-from symbolic_terms import TOP, Unsupported
-
-sys.path.append(os.path.join(TOP, "assembly"))
-from eh_frame import Table
-from same_bytes import (FRAMES, LOADED, NONE, NOTE, RELA, STRTAB, SYMTAB, USED, Object, difference, differences, is_global,
-                        notes_of, properties_of)
+from oracle.symbolic_terms import Unsupported
+from assembly.eh_frame import Table
+from assembly.same_bytes import (FRAMES, LOADED, NONE, NOTE, RELA, STRTAB, SYMTAB, USED, Object, difference, differences, is_global,
+                                 notes_of, properties_of)
 
 PROGBITS, NOBITS, UNWIND = 1, 8, 0x70000001           # section types
 CODE, CONSTANTS, MERGEABLE, WRITTEN, INFO = LOADED | 4, LOADED, LOADED | 0x10, LOADED | 1, 0x40      # section flags
@@ -34,17 +30,17 @@ EMPTY = [(r"", (NONE,), 0), (r"\.text", (PROGBITS,), CODE), (r"\.data", (PROGBIT
          (r"\.note\.GNU-stack", (PROGBITS,), 0)]
 
 
-def want(holds, why):
+def require(holds, why):
     if not holds:
         raise Unsupported(why)
 
 
 def expect_listed(object_, export):
     """Refuses an object with contents that aren't listed. `export` is an export's binding and visibility."""
-    want((tuple(object_.data[6:9]), object_.flags) == (HEAD, 0), "an object for another system")
+    require((tuple(object_.data[6:9]), object_.flags) == (HEAD, 0), "an object for another system")
     names = [head.name for head in object_.heads]
-    want(len({*names}) == len(names), f"two sections are named {max(names, key=names.count)}")
-    want(".note.GNU-stack" in names, "no note that the stack isn't run")
+    require(len({*names}) == len(names), f"two sections are named {max(names, key=names.count)}")
+    require(".note.GNU-stack" in names, "no note that the stack isn't run")
     for head in object_.heads:
         expect_section(object_, head)
     expect_notes(object_)
@@ -52,48 +48,48 @@ def expect_listed(object_, export):
     for symbol in object_.symbols[1:]:
         begun |= expect_symbol(object_, symbol, export, begun)
     left = {head.name for head in object_.heads if head.flags == CODE and head.size} - begun
-    want(not left, f"the section {min(left, default='')}, which is no function")
+    require(not left, f"the section {min(left, default='')}, which is no function")
 
 
 def expect_section(object_, head):
     known = LISTED if head.size else EMPTY
-    want(any(re.fullmatch(name, head.name, re.ASCII) and head.kind in kinds and head.flags == flags
-             for name, kinds, flags in known), f"the section {head.name} of kind {head.kind} and flags {head.flags:#x}")
-    want(head.align <= MOST_ALIGNED, f"{head.name} at a multiple of {head.align}")
+    require(any(re.fullmatch(name, head.name, re.ASCII) and head.kind in types and head.flags == flags
+                for name, types, flags in known), f"the section {head.name} of kind {head.kind} and flags {head.flags:#x}")
+    require(head.align <= MOST_ALIGNED, f"{head.name} at a multiple of {head.align}")
     if head.flags == MERGEABLE:
         entry = int(head.name[len(".rodata.cst"):])
-        want(head.entry == head.align == entry and not head.size % entry, f"entries of {head.name} of another size")
+        require(head.entry == head.align == entry and not head.size % entry, f"entries of {head.name} of another size")
     if head.kind == RELA:
         target = object_.heads[head.info].name if head.info < len(object_.heads) else ""
-        want(head.name == ".rela" + target and object_.heads[head.link].kind == SYMTAB, f"{head.name} of another section")
+        require(head.name == ".rela" + target and object_.heads[head.link].kind == SYMTAB, f"{head.name} of another section")
 
 
 def expect_notes(object_):
     """Checks the notes: on x86-64 the one for shadow stacks and an assembler's list of instructions, else none."""
     found = [head for head in object_.heads if head.kind == NOTE]
     notes = [note for head in found for note in notes_of(object_.body(head), 8)]
-    want([key for key, _ in notes] == ([PROPERTIES] if object_.machine == X86_64 else []), "other notes")
-    want(all(content[:12] == SHADOW_STACK and len(content) <= 16 for _, whole in notes for content in properties_of(whole)) and
-         all(list(properties_of(whole)) for _, whole in notes), f"a property beyond {SHADOW_STACK.hex()} and {USED}")
+    require([key for key, _ in notes] == ([PROPERTIES] if object_.machine == X86_64 else []), "other notes")
+    require(all(content[:12] == SHADOW_STACK and len(content) <= 16 for _, whole in notes for content in properties_of(whole)) and
+            all(list(properties_of(whole)) for _, whole in notes), f"a property beyond {SHADOW_STACK.hex()} and {USED}")
 
 
 def expect_symbol(object_, symbol, export, begun):
     """Checks a symbol. Returns the section that it is the function of in a set, or an empty set."""
-    kind, binding = symbol.info & 15, symbol.info >> 4
+    symbol_type, binding = symbol.info & 15, symbol.info >> 4
     if not symbol.section:
-        want((kind, binding, symbol.other) == (LABEL, GLOBAL, DEFAULT) and symbol.name in OUTER,
-             f"{symbol.name}, which isn't here, or is weak")
+        require((symbol_type, binding, symbol.other) == (LABEL, GLOBAL, DEFAULT) and symbol.name in OUTER,
+                f"{symbol.name}, which isn't here, or is weak")
         return set()
-    want(symbol.section < len(object_.heads), f"{symbol.name} has a place in no section")
+    require(symbol.section < len(object_.heads), f"{symbol.name} has a place in no section")
     head = object_.heads[symbol.section]
     if is_global(symbol):
-        want(kind == FUNCTION, f"{symbol.name} is no function")
-        want((binding, symbol.other) == export, f"{symbol.name} of the binding {binding} and visibility {symbol.other}")
-    want(kind in (LABEL, FUNCTION, SECTION) and symbol.value <= head.size, f"{symbol.name} of kind {kind}")
-    if kind != FUNCTION:
+        require(symbol_type == FUNCTION, f"{symbol.name} is no function")
+        require((binding, symbol.other) == export, f"{symbol.name} of the binding {binding} and visibility {symbol.other}")
+    require(symbol_type in (LABEL, FUNCTION, SECTION) and symbol.value <= head.size, f"{symbol.name} of kind {symbol_type}")
+    if symbol_type != FUNCTION:
         return set()
-    want((symbol.value, symbol.size) == (0, head.size) and head.flags == CODE and head.name not in begun,
-         f"{symbol.name} isn't all of {head.name}")
+    require((symbol.value, symbol.size) == (0, head.size) and head.flags == CODE and head.name not in begun,
+            f"{symbol.name} isn't all of {head.name}")
     return {head.name}
 
 
@@ -106,7 +102,7 @@ class Loaded:
 
     def __init__(self, path):
         self.object = Object(path)
-        want(self.object.machine == self.MACHINE, "an object of another processor")
+        require(self.object.machine == self.MACHINE, "an object of another processor")
         self.expect_listed()
         self.heads = self.loaded_sections()
         self.constants = dict(self.read_constants())
@@ -138,13 +134,13 @@ class Loaded:
 
     def names(self):
         functions = [symbol for symbol in self.object.symbols if symbol.section and symbol.info & 15 == FUNCTION]
-        want(len({symbol.name for symbol in functions}) == len(functions), "two functions of one name")
+        require(len({symbol.name for symbol in functions}) == len(functions), "two functions of one name")
         return ({symbol.name: self.place_of(symbol) for symbol in functions if is_global(symbol) or not of_exports}
                 for of_exports in (False, True))
 
     def function(self, name):
         """Returns the place of a function."""
-        want(name in self.functions, f"the text has no {name}")
+        require(name in self.functions, f"the text has no {name}")
         return self.functions[name]
 
     def place_of(self, symbol):
@@ -154,15 +150,15 @@ class Loaded:
         """Returns a relocation's target: (section, constant or external function, offset). A linker merges constants
         before it adds the addend, so a place in a mergeable section must be a constant's first byte."""
         if is_global(symbol):
-            want(not symbol.section and symbol.name in OUTER and not addend,
-                 f"a way to {symbol.name}{addend:+#x}, which another library may have")
+            require(not symbol.section and symbol.name in OUTER and not addend,
+                    f"a way to {symbol.name}{addend:+#x}, which another library may have")
             return symbol.name, 0
         name, value = self.place_of(symbol)
-        want(name in self.heads, f"a way to {name}")
+        require(name in self.heads, f"a way to {name}")
         if self.heads[name].flags != MERGEABLE:
             return name, value + addend
         # An addend to the section itself is an offset in it.
         value, addend = (value + addend, 0) if symbol.info & 15 == SECTION else (value, addend)
-        want(not addend and f"{name}+{value}" in self.constants,
-             f"a place in the constant at {value + addend:#x} of {name}, which a linker may move")
+        require(not addend and f"{name}+{value}" in self.constants,
+                f"a place in the constant at {value + addend:#x} of {name}, which a linker may move")
         return f"{name}+{value}", 0

@@ -8,7 +8,7 @@ import functools
 import re
 import subprocess
 
-from symbolic_terms import Unsupported
+from oracle.symbolic_terms import Unsupported
 
 from .disassembly import expect_bytes
 from .object_contents import CODE, Loaded
@@ -57,8 +57,8 @@ class Program(Loaded):
     def relocations_of(self, section):
         """Maps each place to its relocation: (symbol, addend)."""
         found = {}
-        for place, kind, symbol, addend in self.relocations_in(section):
-            if kind not in self.RELOCATIONS or section.flags != CODE or place in found:
+        for place, r_type, symbol, addend in self.relocations_in(section):
+            if r_type not in self.RELOCATIONS or section.flags != CODE or place in found:
                 raise Unsupported(f"a relocation at {place:#x} of {section.name}")
             found[place] = symbol, addend
         return found
@@ -106,9 +106,9 @@ class Program(Loaded):
 def listing(path, objdump="objdump", options=(), pattern=LINE, order=1):
     """Maps each section to (address, bytes, text) of each instruction, as printed by objdump. `order` is -1 if it prints
     the last byte first."""
-    words = [objdump, "-d", "-z", "-w", *options, path]
+    command = [objdump, "-d", "-z", "-w", *options, path]
     found, lines = {}, None
-    for line in subprocess.run(words, check=True, capture_output=True, text=True).stdout.splitlines():
+    for line in subprocess.run(command, check=True, capture_output=True, text=True).stdout.splitlines():
         if line.startswith("Disassembly of section "):
             lines = found.setdefault(line[len("Disassembly of section "):-1], [])
         elif match := pattern.fullmatch(line):
@@ -118,10 +118,10 @@ def listing(path, objdump="objdump", options=(), pattern=LINE, order=1):
 
 def split(text):
     """Returns the mnemonic and the operands, without objdump's comments, and without the prefixes of a `nop`."""
-    words = text.split("#")[0].split(None, 1)
-    while words[0] in PREFIXES and len(words) > 1 and re.match(r"(\w+ )*nop", words[1]):
-        words = words[1].split(None, 1)
-    return words[0], words[1].strip() if len(words) > 1 else ""
+    parts = text.split("#")[0].split(None, 1)
+    while parts[0] in PREFIXES and len(parts) > 1 and re.match(r"(\w+ )*nop", parts[1]):
+        parts = parts[1].split(None, 1)
+    return parts[0], parts[1].strip() if len(parts) > 1 else ""
 
 
 def with_broadcast(mnemonic, rest):

@@ -10,13 +10,13 @@ import random
 import struct
 import subprocess
 
-from symbolic_terms import NotShown, ones
+from oracle.symbolic_terms import NotShown, ones
 
 from .disassembly import NOPS
 from .instructions import OLDER, PARTS, SETS, TABLE, V3, V4, WIDE, letters, needs_v4
-from .memory import ENTRY, Stack, Words
+from .memory import ENTRY, Stack, WordMemory
 from .objects import Immediate, Place, Program, Register
-from .processor import KEPT, LANES, VECTORS_COUNT, Processor
+from .processor import CALLEE_SAVED, LANES, VECTORS_COUNT, Processor
 from .scalar import CONDITIONS
 from .values import address
 
@@ -28,7 +28,7 @@ BEHIND = "jmp", "call", "ret", "push", "pop", "nop", "ud2", "vzeroupper", "j"   
 LOADED = [name for name in WIDE if name != "rsp"]
 # Offsets in a function's buffer: registers, vectors, the word that sets the flags, the instruction's memory operand,
 # and then the registers, vectors and flags afterwards.
-REGISTERS, VECTORS, COMPARED, ROOM, AFTER, VECTORS_AFTER, FLAGS_AFTER, SIZE = 0, 128, 2176, 2240, 2368, 2496, 4544, 4608
+REGISTERS, VECTORS, COMPARED, MEMORY, AFTER, VECTORS_AFTER, FLAGS_AFTER, SIZE = 0, 128, 2176, 2240, 2368, 2496, 4544, 4608
 WHOLE = 8 * LANES                 # bytes of a vector
 FLAGS = "b", "e", "a"
 SOME_FLAGS = {**dict.fromkeys(("imul", "mul", "div", "shld", "shrd", "rol", "ror"), ()),      # the flags that are set
@@ -94,14 +94,14 @@ def written(mnemonic, operands):
     base = next(name for name in BASES if name not in names)
     is_lea = mnemonic == "lea"
     word, _, broadcast = mnemonic.partition("{")
-    told = ",".join(operand_written(x, base, is_lea) for x in operands)
-    return f"{word} {told.replace(')', '){' + broadcast, 1) if broadcast else told}"
+    text = ",".join(operand_written(x, base, is_lea) for x in operands)
+    return f"{word} {text.replace(')', '){' + broadcast, 1) if broadcast else text}"
 
 
 def bases_of(lines):
     """Returns the registers that hold the buffer's address."""
     is_lea = lines[0].startswith("lea ")
-    return [name for name in BASES if not is_lea and f"{ROOM:#x}(%{name})" in lines[0]]
+    return [name for name in BASES if not is_lea and f"{MEMORY:#x}(%{name})" in lines[0]]
 
 
 def operand_written(x, base, is_lea):
@@ -110,7 +110,7 @@ def operand_written(x, base, is_lea):
     if isinstance(x, Immediate):
         return f"${x.value:#x}"
     if not is_lea:
-        return f"{ROOM:#x}(%{base})"
+        return f"{MEMORY:#x}(%{base})"
     names = ["rbx" if name in ("rip", "rsp") else name for name in (x.base, x.index) if name]
     parts = ",".join(f"%{name}" for name in names) if x.base else f",%{names[0]}"
     return f"{x.displacement:#x}({parts}" + (f",{x.scale})" if x.index else ")")
@@ -124,7 +124,7 @@ def function(number, lines):
     bases = bases_of(lines)
     rest = [name for name in LOADED if name not in (*bases, "rdi")]
     yield from (f".globl t{number}", f".type t{number},@function", f"t{number}:")
-    yield from (f"push %{name}" for name in (*KEPT, "rdi"))
+    yield from (f"push %{name}" for name in (*CALLEE_SAVED, "rdi"))
     yield f"cmpl $1,{COMPARED}(%rdi)"
     yield from moves("{place},{vector}", VECTORS)
     yield from (f"mov {REGISTERS + 8 * LOADED.index(name)}(%rdi),%{name}" for name in rest)
@@ -137,7 +137,7 @@ def function(number, lines):
     yield from [] if "rdi" in bases else [f"mov %rax,{AFTER + 8 * LOADED.index('rdi')}(%rdi)"]
     for k, name in enumerate(SOME_FLAGS.get(lines[0].split()[0], FLAGS)):
         yield from (f"set{name} %al", f"mov %al,{FLAGS_AFTER + k}(%rdi)")
-    yield from (f"pop %{name}" for name in ("rdi", *reversed(KEPT)))
+    yield from (f"pop %{name}" for name in ("rdi", *reversed(CALLEE_SAVED)))
     yield from ("vzeroupper", "ret")
 
 
@@ -155,25 +155,25 @@ class Snippets(Program):
         pass
 
 
-def assembled(snippets, room, reader=Snippets):
+def assembled(snippets, workdir, reader=Snippets):
     """Returns the functions as a shared library to run, and as a program to read."""
-    with open(f"{room}/snippets.s", "w", encoding="utf-8") as file:
+    with open(f"{workdir}/snippets.s", "w", encoding="utf-8") as file:
         print('.section .note.GNU-stack,"",@progbits', ".text", sep="\n", file=file)
         for number, lines in enumerate(snippets):
             print(*function(number, lines), sep="\n", file=file)
-    for words in (["-c", "-o", f"{room}/snippets.o"], ["-shared", "-o", f"{room}/snippets.so"]):
-        subprocess.run(["gcc", *words, f"{room}/snippets.s"], check=True)
-    return ctypes.CDLL(f"{room}/snippets.so"), reader(f"{room}/snippets.o")
+    for options in (["-c", "-o", f"{workdir}/snippets.o"], ["-shared", "-o", f"{workdir}/snippets.so"]):
+        subprocess.run(["gcc", *options, f"{workdir}/snippets.s"], check=True)
+    return ctypes.CDLL(f"{workdir}/snippets.so"), reader(f"{workdir}/snippets.o")
 
 
 # ---- both runs
 
-def inputs(mnemonic, lines, draw):
-    data = bytearray(draw.randbytes(SIZE))
-    if draw.random() < 0.4:
-        data = with_edges(data, draw)
-    data[COMPARED:COMPARED + 4] = draw.randrange(3).to_bytes(4, "little")
-    if draw.random() < 0.2:
+def inputs(mnemonic, lines, rng):
+    data = bytearray(rng.randbytes(SIZE))
+    if rng.random() < 0.4:
+        data = with_edges(data, rng)
+    data[COMPARED:COMPARED + 4] = rng.randrange(3).to_bytes(4, "little")
+    if rng.random() < 0.2:
         rax, rbx = (8 * LOADED.index(name) for name in ("rax", "rbx"))
         data[rbx:rbx + 8] = data[rax:rax + 8]
     if mnemonic == "div":     # a dividend of one word, and an odd divisor
@@ -183,10 +183,10 @@ def inputs(mnemonic, lines, draw):
     return data
 
 
-def with_edges(data, draw):
+def with_edges(data, rng):
     """Replaces most bytes by edge cases."""
     old, edges, mask = (int.from_bytes(x, "little") for x in (
-        data, draw.randbytes(SIZE).translate(EDGES), draw.randbytes(SIZE).translate(MOSTLY)))
+        data, rng.randbytes(SIZE).translate(EDGES), rng.randbytes(SIZE).translate(MOSTLY)))
     return bytearray((old & ~mask | edges & mask).to_bytes(SIZE, "little"))
 
 
@@ -196,10 +196,10 @@ def word(data, at):
 
 def by_table(cpu, number, lines, data):
     """Returns the expected contents of the buffer afterwards, by the table."""
-    room = Words("state", SIZE, [(at, 8, word(data, at)) for at in range(ROOM, AFTER, 8)], alignment=64)
+    state = WordMemory("state", SIZE, [(at, 8, word(data, at)) for at in range(MEMORY, AFTER, 8)], alignment=64)
     cpu.registers = {name: word(data, REGISTERS + 8 * k) for k, name in enumerate(LOADED)}
     bases = bases_of(lines)
-    cpu.registers.update({name: address(room) for name in bases})
+    cpu.registers.update({name: address(state) for name in bases})
     cpu.stack = Stack()
     cpu.registers["rsp"] = address(cpu.stack, ENTRY)
     lanes = struct.unpack_from(f"<{LANES * VECTORS_COUNT}Q", data, VECTORS)
@@ -207,8 +207,8 @@ def by_table(cpu, number, lines, data):
     cpu.set_flags("sub", 32, word(data, COMPARED) & ones(32), 1, None)
     run_to(cpu, cpu.program.labels[f"b{number}"], cpu.program.labels[f"e{number}"])
     out = bytearray(data)
-    for at in range(ROOM, AFTER, 8):
-        out[at:at + 8] = room.load(at, 8).to_bytes(8, "little")
+    for at in range(MEMORY, AFTER, 8):
+        out[at:at + 8] = state.load(at, 8).to_bytes(8, "little")
     for k, name in enumerate(LOADED):
         if name not in bases:
             out[AFTER + 8 * k:AFTER + 8 * k + 8] = cpu.registers[name].to_bytes(8, "little")
@@ -238,12 +238,12 @@ def own_bytes(programs):
             if x.operands and not any(isinstance(y, Place) or y == Register("rsp") for y in x.operands)}
 
 
-def compare(texts, room, own=None, snippets=SNIPPETS, reader=Snippets):
+def compare(texts, workdir, own=None, snippets=SNIPPETS, reader=Snippets):
     """Tests instructions, each with its form, and snippets. Returns their number and the differences. `own` maps
     instructions to the bytes that they must have."""
     forms, snippets = [*texts.values(), *[None] * len(snippets)], [*([text] for text in texts), *snippets]
-    library, program = assembled(snippets, room, reader)
-    cpu, draw, wrong = Processor(program, processor_here()), random.Random(1), []
+    library, program = assembled(snippets, workdir, reader)
+    cpu, rng, wrong = Processor(program, processor_here()), random.Random(1), []
     whole = ctypes.create_string_buffer(SIZE + 64)
     first = -ctypes.addressof(whole) % 64
     state = (ctypes.c_ubyte * SIZE).from_buffer(whole, first)
@@ -256,7 +256,7 @@ def compare(texts, room, own=None, snippets=SNIPPETS, reader=Snippets):
             wrong.append(f"{lines[0]} isn't of the form {' '.join(form)}")
         run = getattr(library, f"t{number}")
         for _ in range(ROUNDS):
-            data = inputs(lines[0].split()[0], lines, draw)
+            data = inputs(lines[0].split()[0], lines, rng)
             ctypes.memmove(state, bytes(data), SIZE)
             run(ctypes.byref(state))
             if ctypes.string_at(state, SIZE) != by_table(cpu, number, lines, bytes(data)):

@@ -1,5 +1,5 @@
 """Runs the one-shots of a source: calls an export for a request and returns the result as a term."""
-from symbolic_terms import Node
+from oracle.symbolic_terms import Node
 
 from .values import address, joined, low
 
@@ -11,8 +11,8 @@ def is_plain(hash_name):
     return hash_name in ("32", "64")
 
 
-def name_of(hash_name, kind):
-    return NAMES[hash_name] + ("" if is_plain(hash_name) else WAYS[kind])
+def name_of(hash_name, variant):
+    return NAMES[hash_name] + ("" if is_plain(hash_name) else WAYS[variant])
 
 
 def of_seed(request):
@@ -41,4 +41,4 @@ def of_text(cpu, request):
     arguments = [address(request.message), request.length]
     if request.secret:
         arguments += [address(request.secret), request.secret_length]
-    return cpu.library.one_shot(cpu, request.hash_name, request.kind, *arguments, *of_seed(request))
+    return cpu.library.one_shot(cpu, request.hash_name, request.variant, *arguments, *of_seed(request))

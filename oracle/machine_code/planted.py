@@ -7,7 +7,7 @@ import subprocess
 import tempfile
 import unittest.mock
 
-from symbolic_terms import REFUSALS, TOP, NotShown, Request, WrongRule, definition, nodes, operations, variable
+from oracle.symbolic_terms import REFUSALS, TOP, NotShown, Request, WrongRule, definition, nodes, operations, variable
 
 from . import (any_updates, calls, coverage, every_length, exports, layouts, on_processor, one_shots, source_layouts,
                streams, values, xxh3_states, xxh3_updates)
@@ -18,7 +18,7 @@ from .sources import by_gnu
 
 SOURCE = os.path.join(TOP, "c", "asm", f"{V2}.s")
 # A planted fault: its title, the change of the source, the test, and a pattern of the refusal's message.
-Wrong = collections.namedtuple("Wrong", "what change ask words")
+Wrong = collections.namedtuple("Wrong", "what change ask message")
 
 
 # ---- changes of a source
@@ -78,10 +78,10 @@ def function(name, *more):
 
 # ---- tests
 
-def request(*words, **more):
+def request(*args, **more):
     """Returns a test that compares a request and its twin with the definition."""
     def ask(cpu):
-        entries, one = definition.program().run(), Request(*words, **more)
+        entries, one = definition.program().run(), Request(*args, **more)
         for each in [one, *one.with_seed_0()]:
             side = one_shots if each.cuts is None else streams
             calls.expect(repr(each), side.of_text(cpu, each), each.of_definition(entries))
@@ -94,13 +94,13 @@ def raising_limit(cpu):
     calls.version(cpu)
 
 
-def proving(kind, prove, *words):
+def proving(proof_class, prove, *args):
     """Returns a test that makes a proof of this kind, and proves a case with it."""
-    return lambda cpu: prove(kind(cpu, *words))
+    return lambda cpu: prove(proof_class(cpu, *args))
 
 
-def of_every_length(kind, seed=None, case=0):
-    return proving(every_length.EveryLength, lambda proof: proof.show(every_length.cases(kind)[case], seed), kind)
+def of_every_length(algorithm, seed=None, case=0):
+    return proving(every_length.EveryLength, lambda proof: proof.show(every_length.cases(algorithm)[case], seed), algorithm)
 
 
 def exported(cpu):
@@ -221,22 +221,22 @@ def unchanged(text):
 class Asked:
     """Tests a planted fault in a source, without checking the grammar; `read` makes a processor of an object."""
 
-    def __init__(self, wrong, source, read, kind=V1):
-        self.title, self.words, self.wrong, self.source, self.read, self.kind = wrong.what, wrong.words, wrong, source, read, kind
+    def __init__(self, wrong, source, read, arch=V1):
+        self.title, self.message, self.wrong, self.source, self.read, self.arch = wrong.what, wrong.message, wrong, source, read, arch
 
     def ask(self):
         """Applies the change and runs the test. Raises the refusal, or NotShown if the change changes nothing."""
         with open(self.source, encoding="utf-8") as file:
             right = file.read()
-        with tempfile.TemporaryDirectory(prefix="machine-text-") as room:
-            with open(f"{room}/wrong.s", "w", encoding="utf-8") as file:
+        with tempfile.TemporaryDirectory(prefix="machine-text-") as workdir:
+            with open(f"{workdir}/wrong.s", "w", encoding="utf-8") as file:
                 file.write(self.wrong.change(right))
             if self.wrong.change(right) == right and self.wrong.change is not unchanged:
                 raise NotShown("no other text")
-            self.run(f"{room}/wrong.s", room)
+            self.run(f"{workdir}/wrong.s", workdir)
 
-    def run(self, path, room):
-        self.wrong.ask(self.read(by_gnu(path, self.kind, room)))
+    def run(self, path, workdir):
+        self.wrong.ask(self.read(by_gnu(path, self.arch, workdir)))
 
 
 def complaints(asked):
@@ -246,7 +246,7 @@ def complaints(asked):
             one.ask()
             yield f"{one.title}: not refused"
         except REFUSALS as error:
-            if not re.search(one.words, str(error)):
+            if not re.search(one.message, str(error)):
                 yield f"{one.title}: refused for another reason: {error}"
 
 
@@ -258,22 +258,22 @@ def refused(asked):
 
 # ---- planted faults in the check itself
 
-def lacks_a_case(room):
+def lacks_a_case(workdir):
     """Checks that a missing case is detected: of every length, of updates, and of XXH3's streams."""
     cases = every_length.cases("3-64:seed")
     updates = list(any_updates.updates("64"))
     with unittest.mock.patch.object(any_updates, "updates", lambda name: updates[:99] + updates[100:]):
         is_seen = bool(any_updates.left_out("64"))
-    proof = xxh3_states.Through(processor(room))
+    proof = xxh3_states.Through(processor(workdir))
     pieces = list(proof.all_updates())
     is_missed = any(coverage.without_update(pieces[:67] + pieces[68:], proof, 300))
     return is_seen and is_missed and len(every_length.left_out(cases[:13] + cases[14:], 1101, 1024)) > 1
 
 
-def processor(room):
+def processor(workdir):
     """Returns a processor of the unchanged source."""
-    subprocess.run(["gcc", "-c", SOURCE, "-o", f"{room}/right.o"], check=True)
-    return Processor(Program(f"{room}/right.o"), V2)
+    subprocess.run(["gcc", "-c", SOURCE, "-o", f"{workdir}/right.o"], check=True)
+    return Processor(Program(f"{workdir}/right.o"), V2)
 
 
 def has_a_wrong_sum(_):
@@ -292,17 +292,17 @@ def has_a_wrong_join(_):
         return raises(WrongRule, lambda: values.joined((nodes.symbol("a", 32), 32), (nodes.symbol("b", 32), 32)))
 
 
-def has_a_wrong_table(room):
+def has_a_wrong_table(workdir):
     """Plants another form's function in the table."""
     form = "shr", "iq"
     with unittest.mock.patch.dict(TABLE, {form: TABLE["shl", "iq"]}):
-        return len(on_processor.compare({on_processor.sampled(*form): form}, room)[1]) == 1
+        return len(on_processor.compare({on_processor.sampled(*form): form}, workdir)[1]) == 1
 
 
-def raises(kind, call):
+def raises(exception, call):
     try:
         call()
-    except kind:
+    except exception:
         return True
     return False
 
@@ -324,6 +324,6 @@ ASKED = [Asked(wrong, SOURCE, lambda path: Processor(Program(path), V2)) for wro
 
 def noticed():
     """Returns the number of detected faults in the check itself, and the messages on the others."""
-    with tempfile.TemporaryDirectory(prefix="machine-text-") as room:
-        bad = [f"{check.__name__}: not noticed" for check in CHECKS if not check(room)]
+    with tempfile.TemporaryDirectory(prefix="machine-text-") as workdir:
+        bad = [f"{check.__name__}: not noticed" for check in CHECKS if not check(workdir)]
     return len(CHECKS) - len(bad), bad

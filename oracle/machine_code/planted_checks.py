@@ -2,7 +2,7 @@
 import os
 import tempfile
 
-from symbolic_terms import TOP, variable
+from oracle.symbolic_terms import TOP, variable
 
 from . import any_updates, calls, cargo_planted, every_length, exports, layouts, xxh3_states, xxh3_updates
 from .aarch64 import objects, table
@@ -42,8 +42,8 @@ def of_plain(prove):
     return proving(any_updates.AnyUpdates, prove, "64")
 
 
-def of_xxh3(prove, kind=xxh3_states.OwnSecret):
-    return proving(kind, prove)
+def of_xxh3(prove, proof_class=xxh3_states.OwnSecret):
+    return proving(proof_class, prove)
 
 
 plain_update = of_plain(lambda proof: proof.update(next(one for one in any_updates.updates("64") if one.more)))
@@ -81,11 +81,11 @@ def by_another(*lines):
 
 def code_by_another(cpu):
     """Compares with the source for x86-64-v3 whose XXH64 goes through a function that does nothing."""
-    with tempfile.TemporaryDirectory(prefix="machine-text-") as room, open(V3_SOURCE, encoding="utf-8") as file:
-        path = os.path.join(room, "v3.s")
+    with tempfile.TemporaryDirectory(prefix="machine-text-") as workdir, open(V3_SOURCE, encoding="utf-8") as file:
+        path = os.path.join(workdir, "v3.s")
         with open(path, "w", encoding="utf-8") as changed:
             changed.write(by_another("jmp .L999_3", ".L999_3:")(file.read()))
-        exports.expect_code_of_v3(cpu.program, Program(by_gnu(path, V1, room)))
+        exports.expect_code_of_v3(cpu.program, Program(by_gnu(path, V1, workdir)))
 
 
 def of_length(register, n, *lines):

@@ -2,7 +2,7 @@
 import os
 import re
 
-from symbolic_terms import TOP
+from oracle.symbolic_terms import TOP
 
 from .grammar import expect_grammar
 from .planted import Asked, Wrong
@@ -99,21 +99,21 @@ NOT_ASSEMBLED = {"an instruction behind a sign of another system", "a way by the
 class AskedLines(Asked):
     """Tests a planted fault that the grammar must refuse, or with `is_alike` the comparison of objects."""
 
-    def __init__(self, source, kind, what, change, is_alike=False):
-        words = "by GNU as and by|refuses the text" if is_alike else r"^wrong\.s:\d+: not of the grammar"
-        super().__init__(Wrong(what, change, None, words), source, None, kind)
+    def __init__(self, source, arch, what, change, is_alike=False):
+        message = "by GNU as and by|refuses the text" if is_alike else r"^wrong\.s:\d+: not of the grammar"
+        super().__init__(Wrong(what, change, None, message), source, None, arch)
         self.is_alike = is_alike
 
-    def run(self, path, room):
+    def run(self, path, workdir):
         if self.title not in NOT_ASSEMBLED:
-            by_gnu(path, self.kind, room)
+            by_gnu(path, self.arch, workdir)
         if self.is_alike:
-            expect_alike([(path, self.kind)])
+            expect_alike([(path, self.arch)])
         else:
-            expect_grammar(path, self.kind)
+            expect_grammar(path, self.arch)
 
 
 X86_ASKED = [*(AskedLines(C, "x86-64", *wrong) for wrong in IN_X86), *(AskedLines(CARGO, "x86-64", *wrong) for wrong in IN_CARGO)]
 ARM_ASKED = [AskedLines(ARM, "aarch64", *wrong) for wrong in IN_ARM]
-X86_ALIKE, ARM_ALIKE = ([AskedLines(source, kind, *wrong, True) for source in sources for wrong in OTHERWISE]
-                        for kind, sources in (("x86-64", (C, CARGO)), ("aarch64", (ARM,))))
+X86_ALIKE, ARM_ALIKE = ([AskedLines(source, arch, *wrong, True) for source in sources for wrong in OTHERWISE]
+                        for arch, sources in (("x86-64", (C, CARGO)), ("aarch64", (ARM,))))

@@ -2,7 +2,7 @@
 frames: each is a committed source with other lines, and its executed instructions are unchanged."""
 import os
 
-from symbolic_terms import TOP, NotShown
+from oracle.symbolic_terms import TOP, NotShown
 
 from . import calls, exports
 from .aarch64 import objects, table
@@ -34,9 +34,9 @@ def local(name):
     return exchanged(f"\t.globl {name}\n", "")
 
 
-def with_property(length, *words):
+def with_property(length, *values):
     """Returns a change that gives the note other properties of `length` bytes."""
-    return lambda text: exchanged(PROPERTY[1], "".join(f"\t.long {word}\n" for word in words))(
+    return lambda text: exchanged(PROPERTY[1], "".join(f"\t.long {word}\n" for word in values))(
         exchanged(PROPERTY[0], f"\t.long 4,{length},5\n")(text))
 
 
@@ -106,7 +106,7 @@ WITH_BYTES = [
 ]
 ARM_BYTES = [("a product whose fixed bits are others", begun(VERSION, ".inst 0x9bc10009"), "which aren't its own")]
 SHARED = [
-    *((what, change, of_object, words) for what, change, words in LISTED),
+    *((what, change, of_object, message) for what, change, message in LISTED),
     ("an export that is missing", local("XXH64_update"), of_exports, "XXH64_update isn't exported"),
     ("an export that no header names", ended(*function("malloc", ".globl malloc")), of_exports, "malloc is exported"),
     ("a frame of another depth", substituted(r"^\t\.cfi_def_cfa_offset \d+$", "\t.cfi_def_cfa_offset 8000"), of_frames,
@@ -144,11 +144,11 @@ ARM_FRAMES = [
         VERSION, "str x19, [sp, #-16]!", ".cfi_def_cfa_offset 16", ".cfi_offset 19,-16", "str xzr, [sp]", "nop",
         "ldr x19, [sp], #16", ".cfi_def_cfa_offset 0", ".cfi_restore 19"), of_frames, "register 19 isn't at -16"),
 ]
-TEXTS = [*SHARED, *OF_FRAMES, *((what, change, of_object, words) for what, change, words in [*OF_X86, *WITH_BYTES]),
+TEXTS = [*SHARED, *OF_FRAMES, *((what, change, of_object, message) for what, change, message in [*OF_X86, *WITH_BYTES]),
          ("another value under a second name", begun("XXH128", "xor %eax,%eax", "xor %edx,%edx", "ret"), of_twins,
           "XXH128 has other code")]
 ARM_TEXTS = [*SHARED, *ARM_FRAMES, ("a value by where the secret lies beside the message", begun(
-    "XXH3_64bits_withSecret", "sub x9, x0, x2", "cmp x9, #8", "b.cs 1f", "mov x0, #0", "ret", "1:"), request("3-64", "secret", 40, 136), "< 8"), *((what, change, of_object, words) for what, change, words in [*OF_ARM, *ARM_BYTES]),
+    "XXH3_64bits_withSecret", "sub x9, x0, x2", "cmp x9, #8", "b.cs 1f", "mov x0, #0", "ret", "1:"), request("3-64", "secret", 40, 136), "< 8"), *((what, change, of_object, message) for what, change, message in [*OF_ARM, *ARM_BYTES]),
              ("another value under a second name", begun("XXH128", "mov x0, #0", "mov x1, #0", "ret"), of_twins,
               "XXH128 has other code")]
 

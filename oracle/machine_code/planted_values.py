@@ -3,7 +3,7 @@ with operands that it must refuse."""
 import collections
 import types
 
-from symbolic_terms import Induction, plus, symbol, variable
+from oracle.symbolic_terms import Induction, plus, symbol, variable
 
 from . import cargo, flags, induction, stripes, values
 from .aarch64 import processor
@@ -26,7 +26,7 @@ PLACE, TERM = address(MEMORY), symbol("term", 64)
 
 
 # A test of one call, like planted.Asked.
-Direct = collections.namedtuple("Direct", "title words ask")
+Direct = collections.namedtuple("Direct", "title message ask")
 
 
 class Counter(Induction):
@@ -52,10 +52,10 @@ class Counter(Induction):
     def new_name(self, prefix):
         return prefix
 
-    def said(self, k):
+    def defined(self, k):
         return ()
 
-    supposed = said
+    supposed = defined
 
     def may_hold_anything(self, cell):
         return False
@@ -67,9 +67,9 @@ class Counter(Induction):
         self.show_below(10)
 
 
-def made(kind, **fields):
+def instance_of(cls, **fields):
     """Returns an object of a class with these fields, made without its constructor."""
-    out = object.__new__(kind)
+    out = object.__new__(cls)
     out.__dict__.update(fields)
     return out
 
@@ -78,8 +78,8 @@ def condition(name, now=None, carry=None):
     flags.condition(types.SimpleNamespace(flags=now, carry=carry), name)
 
 
-def arm_operands(kind, a):
-    processor.Processor.signed_operands(types.SimpleNamespace(flags=(kind, 64, a, 2, 3)))
+def arm_operands(op, a):
+    processor.Processor.signed_operands(types.SimpleNamespace(flags=(op, 64, a, 2, 3)))
 
 
 ASKED = [Direct(*one) for one in (
@@ -103,8 +103,8 @@ ASKED = [Direct(*one) for one in (
     ("a one-shot with a seed of the cargo crate", "no export hashes", lambda: cargo.ForCargo.one_shot(None, "3-64", "seed")),
     ("a loop that changes another cell later", "kept is 8 and not 7", lambda: Counter().show()),
     ("a loop that is entered again", "isn't left",
-     lambda: made(induction.Loops, stop=None, running={("section", 3): 5}).pass_by(None, ("section", 3))),
+     lambda: instance_of(induction.Loops, stop=None, running={("section", 3): 5}).pass_by(None, ("section", 3))),
     ("a loop that stores to a run", "stores to a run",
-     lambda: made(induction.Proof, runs={MEMORY: []}, name="a loop").compare(0)),
-    ("a call that passes something else", "a call of f: the piece", lambda: made(stripes.Summary, name="f").expect("the piece", False)),
+     lambda: instance_of(induction.Proof, runs={MEMORY: []}, name="a loop").compare(0)),
+    ("a call that passes something else", "a call of f: the piece", lambda: instance_of(stripes.Summary, name="f").expect("the piece", False)),
 )]

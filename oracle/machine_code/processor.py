@@ -6,17 +6,17 @@ The flags are unset. Errors are: an address outside of the passed objects, a loa
 store to read-only memory, a branch on a symbol, and a form of an instruction that the table lacks."""
 import functools
 
-from symbolic_terms import Unsupported, is_natural, is_number, is_same_number, minus, ones
+from oracle.symbolic_terms import Unsupported, is_natural, is_number, is_same_number, minus, ones
 
 from . import flags
 from .instructions import PARTS, VECTORS, WIDE, known
 from .object_contents import OUTER
-from .memory import ENTRY, RED, Constants, ReturnTo, Stack, Words, copy, fill
+from .memory import ENTRY, RED, Constants, ReturnTo, Stack, WordMemory, copy, fill
 from .objects import Immediate, Register
 from .streams import ForC
 from .values import WORD, Address, Names, address, arithmetic, bits, joined, low, place_of
 
-KEPT = "rbx", "rbp", "r12", "r13", "r14", "r15"          # callee-saved registers
+CALLEE_SAVED = "rbx", "rbp", "r12", "r13", "r14", "r15"          # callee-saved registers
 ARGUMENTS = "rdi", "rsi", "rdx", "rcx", "r8", "r9"
 OUT = "return"
 LANES = 8                         # lanes of a vector, 64 bits each
@@ -47,9 +47,9 @@ class Runner(Names):
                 place = self.loops.pass_by(self, place)
             place = self.step(place)
 
-    def expect_kept(self, kept):
+    def expect_unchanged(self, saved):
         """Checks the callee-saved registers."""
-        for register, x in kept.items():
+        for register, x in saved.items():
             if self.registers[register] is not x:
                 raise Unsupported(f"{register} isn't the caller's at the end")
 
@@ -63,7 +63,7 @@ class Runner(Names):
     def expect_writable(self, memory):
         """Checks a store's object: writable, and during a loop's proof the stack or an object of `live`."""
         is_known = not self.loops or memory is self.stack or any(memory is other for other in self.live)
-        if not isinstance(memory, Words) or not is_known:
+        if not isinstance(memory, WordMemory) or not is_known:
             raise Unsupported(f"a store to {memory.name}")
 
     def store(self, memory, at, n, x):
@@ -107,9 +107,9 @@ class Processor(Runner):
                 value, width = x
                 x = joined((value, width), (self.fresh(where, WORD - width), WORD - width))
             self.registers[where] = x
-        kept = {name: self.registers[name] for name in KEPT}
+        saved = {name: self.registers[name] for name in CALLEE_SAVED}
         self.run(self.program.function(name))
-        self.expect_kept(kept)         # a return checks the stack pointer: its address is at one place only
+        self.expect_unchanged(saved)         # a return checks the stack pointer: its address is at one place only
         return self.registers["rax"], self.registers["rdx"]
 
     @staticmethod
@@ -154,7 +154,7 @@ class Processor(Runner):
         memory, at = self.registers["rsp"].place()
         memory.forget_below(at)
         for register in WIDE:
-            if register not in KEPT and register != "rsp":
+            if register not in CALLEE_SAVED and register != "rsp":
                 self.registers[register] = self.fresh(register)
         self.forget_vectors()
         self.forget_flags()
@@ -281,9 +281,9 @@ def call_of_outer(name, cpu, _):
         raise Unsupported("a call with the stack at no multiple of 16")
     memory.forget_below(at)
     if not is_same_number(n, 0):
-        room, first = place_of(to)
-        cpu.expect_writable(room)
-        if room is memory and not is_natural(minus(first, at + 8)):
+        target, first = place_of(to)
+        cpu.expect_writable(target)
+        if target is memory and not is_natural(minus(first, at + 8)):
             raise Unsupported("a copy to what lies below the stack")
     if name == "memset":
         fill(to, low(source, 8), n)

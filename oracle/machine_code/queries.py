@@ -8,9 +8,9 @@ import collections
 import functools
 import random
 
-from reasons import CRASH
-from symbolic_terms import REFUSALS, NotShown, Request, WrongRule, is_same, nodes
-from symbolic_terms.mutation import definition_at
+from oracle.reasons import CRASH
+from oracle.symbolic_terms import REFUSALS, NotShown, Request, WrongRule, is_same, nodes
+from oracle.symbolic_terms.mutation import definition_at
 
 from . import any_secret, any_updates, calls, every_length, layouts, long_seeds, one_shots, streams, xxh3_states, xxh3_updates
 from .memory import Numbers
@@ -35,7 +35,7 @@ OF_BLOCKS = 3146, 600             # bytes of a stream whose second chunk has two
 # Bytes from which on a request takes longer than an induction. No requests near to it are generated.
 LONG = 10_000
 # Further requests, for changes still undetected: each short length, and each number of stripes of two blocks.
-BUFFERED, LENGTHS = layouts.STATE.room, [*range(300), *range(300, 2400, 61)]
+BUFFERED, LENGTHS = layouts.STATE.capacity, [*range(300), *range(300, 2400, 61)]
 OTHER_SECRETS = [(2200, 195), (3300, 193), (5000, 140), (16_000, 184), (32_000, 195)]
 
 
@@ -43,14 +43,14 @@ OTHER_SECRETS = [(2200, 195), (3300, 193), (5000, 140), (16_000, 184), (32_000, 
 
 def requests(is_all):
     """Yields requests with lengths on both sides of each edge; without `is_all` fewer lengths and functions."""
-    kinds = [("32", "seed", None), ("64", "seed", None)]
-    kinds += [(name, kind, 136 if kind in ("secret", "both") else None) for name in ("3-64", "3-128")
-              for kind in one_shots.WAYS]
-    for hash_name, kind, secret in kinds if is_all else [kind for kind in kinds if kind not in LEFT_OUT]:
+    algorithms = [("32", "seed", None), ("64", "seed", None)]
+    algorithms += [(name, variant, 136 if variant in ("secret", "both") else None) for name in ("3-64", "3-128")
+                   for variant in one_shots.WAYS]
+    for hash_name, variant, secret in algorithms if is_all else [variant for variant in algorithms if variant not in LEFT_OUT]:
         for n in sorted({*EDGES, *ONE_SHOTS}) if is_all else EDGES[::2]:
-            yield Request(hash_name, kind, n, secret)
+            yield Request(hash_name, variant, n, secret)
         for n, *cuts in [*((n,) for n in EDGES), *STREAMS] if is_all else [*((n,) for n in EDGES[1:-6:4]), *STREAMS[::3]]:
-            yield Request(hash_name, kind, n, secret, cuts=cuts)
+            yield Request(hash_name, variant, n, secret, cuts=cuts)
     for hash_name in ("3-64", "3-128"):
         for n, secret in BY_SECRETS if is_all else BY_SECRETS[::3]:
             yield Request(hash_name, "secret", n, secret)
@@ -59,11 +59,11 @@ def requests(is_all):
 
 
 def long_requests():
-    for hash_name, kind, secret, n in FAR:
-        yield Request(hash_name, kind, n, secret)
-    for kind, secret in (("seed", None), ("both", 136), ("both", 200)):
+    for hash_name, variant, secret, n in FAR:
+        yield Request(hash_name, variant, n, secret)
+    for variant, secret in (("seed", None), ("both", 136), ("both", 200)):
         for n, *cuts in LONG_STREAMS:
-            yield Request("3-64", kind, n, secret, cuts=cuts)
+            yield Request("3-64", variant, n, secret, cuts=cuts)
 
 
 def with_twins(request):
@@ -72,14 +72,14 @@ def with_twins(request):
 
 def in_numbers(request, is_extreme):
     """Returns the same request with concrete inputs; if `is_extreme`, most bytes are 0 or 255."""
-    draw = random.Random(request.length)
-    message, secret, own = (draw.randbytes(n) for n in (request.length, request.secret_length or 0, 8))
+    rng = random.Random(request.length)
+    message, secret, own = (rng.randbytes(n) for n in (request.length, request.secret_length or 0, 8))
     if is_extreme:
         message, secret = message.translate(nodes.EXTREME), secret.translate(nodes.EXTREME)
     seed = request.fixed_seed
     if seed is None and request.has_seed():
         seed = int.from_bytes(own[:4] if request.hash_name == "32" else own, "little")
-    out = Request(request.hash_name, request.kind, request.length, request.secret_length, seed, request.cuts)
+    out = Request(request.hash_name, request.variant, request.length, request.secret_length, seed, request.cuts)
     out.message, out.secret = Numbers("m", message), out.secret and Numbers("s", secret)
     return out
 
@@ -137,10 +137,10 @@ class OfRequest:
     def twice(self, cpu):
         """Runs on numbers. If that detects something, runs on symbols, which must detect it too."""
         found = self.with_numbers(cpu)
-        told = self.over_symbols(cpu) if found else None
-        if found == ANOTHER_VALUE and not told:
+        message = self.over_symbols(cpu) if found else None
+        if found == ANOTHER_VALUE and not message:
             return f"{CRASH}: {self.title} comes to one term, and with numbers to two values"
-        return told
+        return message
 
 
 def queries(entries, is_all, others, library):
@@ -155,26 +155,26 @@ def are_long(asked):
     return all(query.request.length >= LONG for query in asked)
 
 
-def near(asked, entries, draw, count, shortest):
+def near(asked, entries, rng, count, shortest):
     """Yields requests with lengths and cuts near to the given ones, with mostly extreme bytes."""
     requests = [query.request for query in asked if query.request.length < LONG]
-    for one in draw.choices(requests, k=count if requests else 0):
-        n = max(shortest, one.length + draw.randrange(-2, 3))
-        cuts = None if one.cuts is None else [max(0, min(n, cut + draw.randrange(-2, 3))) for cut in one.cuts]
-        request = Request(one.hash_name, one.kind, n, one.secret_length, cuts=cuts and sorted(cuts))
+    for one in rng.choices(requests, k=count if requests else 0):
+        n = max(shortest, one.length + rng.randrange(-2, 3))
+        cuts = None if one.cuts is None else [max(0, min(n, cut + rng.randrange(-2, 3))) for cut in one.cuts]
+        request = Request(one.hash_name, one.variant, n, one.secret_length, cuts=cuts and sorted(cuts))
         yield from (OfRequest(twin, entries, True) for twin in with_twins(request))
 
 
 def further(asked, entries, shortest):
     """Yields further requests of the same hashes: one-shots of LENGTHS and with other secrets, and streams that add
     each number of bytes to the buffer and leave each number in it."""
-    kinds = {(one.hash_name, one.cuts is None): one for one in (query.request for query in asked)}
-    for (hash_name, is_once), one in kinds.items():
+    by_algorithm = {(one.hash_name, one.cuts is None): one for one in (query.request for query in asked)}
+    for (hash_name, is_once), one in by_algorithm.items():
         for n, *cuts in [(n,) for n in LENGTHS if n >= shortest] if is_once else further_streams(one_shots.is_plain(hash_name)):
-            yield OfRequest(Request(hash_name, one.kind, n, one.secret_length, one.fixed_seed, None if is_once else cuts),
+            yield OfRequest(Request(hash_name, one.variant, n, one.secret_length, one.fixed_seed, None if is_once else cuts),
                             entries)
         for n, secret in OTHER_SECRETS if is_once and one.secret_length else ():
-            yield OfRequest(Request(hash_name, one.kind, n, secret), entries)
+            yield OfRequest(Request(hash_name, one.variant, n, secret), entries)
 
 
 def further_streams(is_plain):
@@ -191,9 +191,9 @@ def reaching(cpu, asked):
     found = collections.defaultdict(int)
     for k, query in enumerate(asked):
         cpu.used = set()
-        told = query.with_numbers(cpu)
-        if told:
-            raise NotShown(f"{query.title}: {told}")
+        message = query.with_numbers(cpu)
+        if message:
+            raise NotShown(f"{query.title}: {message}")
         for place in cpu.used:
             found[place] |= 1 << k
     return {place: bits for place, bits in found.items() if place[0] in cpu.program.sections}
@@ -202,7 +202,7 @@ def reaching(cpu, asked):
 # Queries of a library besides requests: other calls, the classes that prove updates of XXH3, and a function that
 # yields calls for changes that are still undetected; and the length of its shortest one-shots.
 Beside = collections.namedtuple("Beside", "calls updates more shortest")
-FOR_C = Beside([call for _, _, call in calls.OTHERS], xxh3_states.KINDS, lambda cpu: (), 0)
+FOR_C = Beside([call for _, _, call in calls.OTHERS], xxh3_states.PROOFS, lambda cpu: (), 0)
 
 
 # ---- queries by induction
@@ -216,10 +216,10 @@ def by_induction(program, asked, section, updates):
             found.setdefault((one.hash_name, one.cuts is None), functools.partial(
                 one_shot if one.cuts is None else plain_update, one.hash_name))
         elif one.cuts is not None:
-            found.update({(ask, kind): functools.partial(ask, kind) for kind in updates for ask in of_streams(kind)})
+            found.update({(ask, proof_class): functools.partial(ask, proof_class) for proof_class in updates for ask in of_streams(proof_class)})
         elif one.length > 240:
             for ask in (one_shot,) if one.secret_length is None else (own_secret, any_secret_of):
-                found.setdefault(ask, functools.partial(ask, f"{one.hash_name}:{one.kind}"))
+                found.setdefault(ask, functools.partial(ask, f"{one.hash_name}:{one.variant}"))
     for summary in TAKING:
         if program.functions.get(summary.name, (None,))[0] == section:
             found[summary.name] = functools.partial(stripes_taken, updates[0], summary.name)
@@ -246,25 +246,25 @@ def plain_update(name, k, cpu):
     any_updates.AnyUpdates(cpu, name).update(case_of(any_updates.updates(name), k))
 
 
-def one_shot(kind, k, cpu):
-    every_length.EveryLength(cpu, kind).show(case_of(every_length.cases(kind), k))
+def one_shot(algorithm, k, cpu):
+    every_length.EveryLength(cpu, algorithm).show(case_of(every_length.cases(algorithm), k))
 
 
-def any_secret_of(kind, k, cpu):
-    name, way = kind.split(":")
+def any_secret_of(algorithm, k, cpu):
+    name, way = algorithm.split(":")
     case_of(any_secret.AnySecret(cpu).queries(way, name[2:]), k)()
 
 
-def own_secret(kind, k, cpu):
+def own_secret(algorithm, k, cpu):
     """Proves a case with a secret of 192 to 199 bytes; for x86-64-v4 one of the cases in its task."""
     is_widened = xxh3_updates.TAKE_WIDENED.name in cpu.program.functions
     cases = every_length.of_secret_by_turns() if is_widened else every_length.of_secret()
-    every_length.EveryLength(cpu, kind).show(case_of(cases, k))
+    every_length.EveryLength(cpu, algorithm).show(case_of(cases, k))
 
 
-def of_streams(kind):
+def of_streams(proof_class):
     """Returns the queries of a class that proves streams of XXH3."""
-    return [xxh3_update, *([xxh3_reset, xxh3_digest] if xxh3_updates.DIGESTS in kind.KINDS else [])]
+    return [xxh3_update, *([xxh3_reset, xxh3_digest] if xxh3_updates.DIGESTS in proof_class.TASKS else [])]
 
 
 def xxh3_reset(updates, k, cpu):
@@ -283,7 +283,7 @@ def xxh3_digest(updates, k, cpu):
 
 
 def secret_of_long_seed(k, cpu):
-    long_seeds.made_secrets(cpu, [calls.SHORTEST + k])
+    long_seeds.generated_secrets(cpu, [calls.SHORTEST + k])
 
 
 def stripes_taken(updates, name, k, cpu):

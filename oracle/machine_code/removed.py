@@ -8,7 +8,7 @@ import collections
 import contextlib
 import unittest.mock
 
-from symbolic_terms import REFUSALS, WrongRule, comparison
+from oracle.symbolic_terms import REFUSALS, WrongRule, comparison
 
 from . import tasks
 from .cargo_exports import BEGIN
@@ -76,27 +76,27 @@ class Known:
         """Returns the title of the comparison with another library's functions, which this one's tasks show."""
         return [f"{BEGIN}functions of {name[len(CARGO):]}"] if name.startswith(CARGO) else []
 
-    def words(self, name, names):
+    def beginnings(self, name, names):
         """Returns the beginnings of the titles of the tasks that show some exports of a source."""
         found = {self.titles[one] for one in names if one not in self.twins or {*names} <= {*self.twins}}
         return (*found, *[self.of_v3] * (name.endswith(V4) and any(map(self.is_of_v3, names))), *self.shared(name))
 
 
-def in_order(asked, name, names, words):
+def in_order(asked, name, names, beginnings):
     """Returns the tasks that show some exports of a source: those that take longer last, and first those whose titles
     have most of the exports' hash and way."""
     def key(task):
         return [any(late in task.title for late in LATE), not task.title.startswith("streams: "),
                 -max(len([tag for tag in tags(one) if tag in task.title]) for one in names)]
     others = [f", {text}" for text in SETS if not name.endswith(text)]
-    return sorted((task for task in asked if task.title.startswith(words) and not any(text in task.title for text in others)), key=key)
+    return sorted((task for task in asked if task.title.startswith(beginnings) and not any(text in task.title for text in others)), key=key)
 
 
 def tags(export):
     """Returns what titles have of an export's hash and way."""
     name = export.replace("twox_rust_", "").replace("xxh3_64", "XXH3_64bits").replace("xxh3_128", "XXH3_128bits")
-    kinds = [(f"XXH{hash_name}", name.split(text, 1)[1]) for hash_name, text in NAMES.items() if text in name]
-    return [kinds[0][0], *[f", {way}" for way, text in WAYS.items() if text and kinds[0][1].endswith(text)][-1:]] if kinds else []
+    matches = [(f"XXH{hash_name}", name.split(text, 1)[1]) for hash_name, text in NAMES.items() if text in name]
+    return [matches[0][0], *[f", {way}" for way, text in WAYS.items() if text and matches[0][1].endswith(text)][-1:]] if matches else []
 
 
 def first_failure():
@@ -137,7 +137,7 @@ def unnoticed(name, program, asked, known, body=never, each=1):
     with first_failure():
         for section, names in found:
             with without(program, section, body(section)):
-                if not any(map(fails, in_order(asked, name, names, known.words(name, names)))):
+                if not any(map(fails, in_order(asked, name, names, known.beginnings(name, names)))):
                     bad.append(f"{name}: no task notices that {section} is removed")
     count = sum(section in exported for section, _ in found)
     return f"{count} exports and {len(found) - count} other functions removed, {len(bad)} unnoticed", bad

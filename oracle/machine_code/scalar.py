@@ -1,5 +1,5 @@
 """Semantics of instructions on words."""
-from symbolic_terms import BINARY, Poly, Unsupported, is_same_number, lifted, ones, operations, plus
+from oracle.symbolic_terms import BINARY, Poly, Unsupported, is_same_number, lifted, ones, operations, plus
 
 from .flags import carry
 from .instructions import V1, V3, form
@@ -126,7 +126,7 @@ def move_where(cpu, x, source, to):
 
 # ---- addition, subtraction, logic
 
-def binary(word, kind):
+def binary(word, op):
     def operation(cpu, x, source, to):
         width = cpu.width(x)
         if word in ("xor", "sub") and source == to:     # 0 for any content
@@ -139,13 +139,13 @@ def binary(word, kind):
             result = arithmetic(word, WORD, cpu.whole(to), b)     # the mask has no bit above the width
         else:
             result = arithmetic(word, width, a, b)
-        cpu.set_flags(kind, width, a, b, result)
+        cpu.set_flags(op, width, a, b, result)
         return cpu.put(to, width, result, x)
     return operation
 
 
-for mnemonic, kind in (("add", "add"), ("sub", "sub"), ("xor", "logic"), ("or", "logic"), ("and", "logic")):
-    form(V1, mnemonic, TWO)(binary(mnemonic, kind))
+for mnemonic, op in (("add", "add"), ("sub", "sub"), ("xor", "logic"), ("or", "logic"), ("and", "logic")):
+    form(V1, mnemonic, TWO)(binary(mnemonic, op))
 form(V1, "or", "bb")(binary("or", "logic"))
 
 
@@ -176,10 +176,10 @@ def subtract_with_borrow(cpu, x, source, to):
 
 @form(V1, "inc dec", "l q")
 def step(cpu, x, to):
-    width, kept = cpu.width(x), cpu.carry
+    width, saved = cpu.width(x), cpu.carry
     result = arithmetic("add" if x.mnemonic == "inc" else "sub", width, cpu.get(to, width, x), 1)
     cpu.set_flags("step", width, None, None, result)
-    cpu.carry = kept
+    cpu.carry = saved
     cpu.put(to, width, result, x)
 
 

@@ -7,8 +7,8 @@ import random
 import tempfile
 import types
 
-from symbolic_terms.processes import Task
-from verifier_mutants import checks, edges, inductions, objects, processors, values
+from oracle.symbolic_terms.processes import Task
+from oracle.verifier_mutants import checks, edges, inductions, objects, processors, values
 
 from . import (any_updates, cargo_calls, cargo_exports, cargo_planted, cargo_streams, cargo_tasks, disabled_checks, exports,
                mutation, on_processor, planted, planted_checks, planted_lines, planted_objects, planted_values, removed,
@@ -31,7 +31,7 @@ def planted_task(title, asked):
 
 def choose(texts, others, is_all):
     """Returns the tasks on c/asm's sources and on cargo's, which are `others`."""
-    forms = sum(kind in SETS[on_processor.processor_here()] for kind, _ in TABLE.values())
+    forms = sum(level in SETS[on_processor.processor_here()] for level, _ in TABLE.values())
     without = "" if on_processor.is_v4() else ", without what it lacks of x86-64-v4"
     return [counted(f"the table of instructions beside the processor{without}", forms - 40,
                     functools.partial(beside_processor, [*texts.values(), *others.values()], is_all)),
@@ -41,7 +41,7 @@ def choose(texts, others, is_all):
             planted_task("wrong texts of each kind are refused", planted.ASKED if is_all else planted.ASKED[:-1]),
             planted_task("wrong texts, one for each check, are refused", planted_checks.X86_ASKED[::1 if is_all else SOME_CHECKS]),
             planted_task("calls with wrong operands are refused", planted_values.ASKED),
-            counted("checks that are switched off are noticed", SWITCHED_OFF[is_all], functools.partial(disabled_checks.tell, is_all)),
+            counted("checks that are switched off are noticed", SWITCHED_OFF[is_all], functools.partial(disabled_checks.report, is_all)),
             counted("tests of values", len(VALUE_TESTS), value_tests),
             counted("faults of the check itself are noticed", len(planted.CHECKS), planted.noticed),
             counted("the layouts of streams are those of the source", source_layouts.FEWEST, source_layouts.of_source),
@@ -81,12 +81,12 @@ def change_tasks(texts, others, is_all):
     the one that shares no function with c/asm."""
     for name, make in makers(texts).items():
         if name == V4:
-            yield change_task(f"in the widened functions of {name}", (4, 100), is_all, name, make, is_drawn=is_widened)
+            yield change_task(f"in the widened functions of {name}", (4, 100), is_all, name, make, is_selected=is_widened)
         else:
             yield change_task(name, (6, 100), is_all, name, make)
     name = f"cargo's {V1}"
     task = change_task(name, (6, 30), is_all, f"cargo-{V1}", makers(others)[name],
-                     beside=Beside([*OF_CARGO, *pieces()], cargo_streams.KINDS, each_piece, 241))
+                     beside=Beside([*OF_CARGO, *pieces()], cargo_streams.PROOFS, each_piece, 241))
     task.title = BEGIN + task.title
     yield task
 
@@ -95,13 +95,13 @@ def pieces():
     """Yields queries that prove cases of chunks: a changed cargo source has no requests of whole streams."""
     for k in range(CASES):
         yield functools.partial(plain_update, "32", k)
-        yield from (functools.partial(xxh3_update, kind, k) for kind in cargo_streams.KINDS)
+        yield from (functools.partial(xxh3_update, proof_class, k) for proof_class in cargo_streams.PROOFS)
 
 
 def each_piece(cpu):
     """Yields calls that prove each case of chunks, of which `pieces` has some: of XXH32 and of XXH3 in turn."""
     plain = [lambda cpu, one=one: any_updates.AnyUpdates(cpu, "32").update(one) for one in any_updates.updates("32")]
-    updates = [lambda _, ask=ask: ask() for kind in cargo_streams.KINDS for ask in kind(cpu).queries(xxh3_updates.UPDATES)]
+    updates = [lambda _, ask=ask: ask() for proof_class in cargo_streams.PROOFS for ask in proof_class(cpu).queries(xxh3_updates.UPDATES)]
     for both in itertools.zip_longest(spread(plain), spread(updates)):
         yield from filter(None, both)
 
@@ -118,20 +118,20 @@ def is_widened(section):
 
 def change_task(where, counts, is_all, *asked, **more):
     """Returns a task of `count` changes of one random seed, or with --all of each seed."""
-    count, draws = counts[is_all], mutation.DRAWS if is_all else 1
-    return counted(f"changes of one instruction, {where}", count * draws,
+    count, seeds = counts[is_all], mutation.SEEDS if is_all else 1
+    return counted(f"changes of one instruction, {where}", count * seeds,
                    functools.partial(mutation.noticed, *asked, count, is_all, **more))
 
 
 def parts_of_changes(title, asked, program, is_all):
     """Yields a task with a few of a module's changes, or with --all a task for each part of them."""
     for part in range(mutation.TASKS) if is_all else [None]:
-        words = f", part {part + 1} of {mutation.TASKS}" if is_all else ""
-        yield counted(title + words, asked.MANY // mutation.TASKS if is_all else asked.FEW,
+        portion = f", part {part + 1} of {mutation.TASKS}" if is_all else ""
+        yield counted(title + portion, asked.MANY // mutation.TASKS if is_all else asked.FEW,
                       functools.partial(asked.noticed, program, part))
 
 
 def beside_processor(programs, is_all):
     on_processor.expect_processor()
-    with tempfile.TemporaryDirectory(prefix="machine-text-") as room:
-        return on_processor.compare(on_processor.asked(programs, is_all), room, on_processor.own_bytes(programs))
+    with tempfile.TemporaryDirectory(prefix="machine-text-") as workdir:
+        return on_processor.compare(on_processor.asked(programs, is_all), workdir, on_processor.own_bytes(programs))

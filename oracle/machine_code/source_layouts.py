@@ -3,7 +3,7 @@ import glob
 import os
 import re
 
-from symbolic_terms import TOP
+from oracle.symbolic_terms import TOP
 
 from . import layouts
 from .streams import ForC
@@ -12,7 +12,7 @@ CRATES = os.path.join(TOP, "crates")
 STRUCTURE = re.compile(r"^#\[repr\(C\)\]\n(?:#\[[^\n]*\]\n)*pub struct (\w+) \{\n(.*?)^\}", re.M | re.S)
 FIELD = re.compile(r"^    (?:pub )?(\w+): (.+),$", re.M)
 NAMED = re.compile(r"^pub(?:\([^)]*\))? (?:const|type) (\w+)(?:: \w+)? = (.+);$", re.M)
-WORDS = {"u8": 1, "u32": 4, "u64": 8, "usize": 8}         # bytes of a type, to a multiple of which it is aligned
+SIZES = {"u8": 1, "u32": 4, "u64": 8, "usize": 8}         # bytes of a type, to a multiple of which it is aligned
 XXH3, FEWEST = "twox_core/src/xxhash3", 11                # minimum number of comparisons
 # Names of fields in the source that layouts.py has under one name.
 OTHER_NAMES = {"marked_usage": "marked", "total_low": "total", "total_len": "total"}
@@ -27,18 +27,18 @@ class Structure:
         self.structures, self.named = dict(STRUCTURE.findall(sources)), dict(NAMED.findall(sources))
         self.size, _, self.fields = self.of(name)
 
-    def of(self, kind):
+    def of(self, type_name):
         """Returns a type's size, its alignment, and its fields."""
-        if kind in WORDS:
-            return WORDS[kind], WORDS[kind], {}
-        if kind.startswith("["):
-            item, count = kind[1:-1].split("; ")
+        if type_name in SIZES:
+            return SIZES[type_name], SIZES[type_name], {}
+        if type_name.startswith("["):
+            item, count = type_name[1:-1].split("; ")
             size, alignment, _ = self.of(item)
             return size * self.number(count), alignment, {}
-        if kind in self.named:
-            return self.of(self.named[kind])
+        if type_name in self.named:
+            return self.of(self.named[type_name])
         end, most, out = 0, 1, {}
-        for name, inner in FIELD.findall(self.structures[kind]):
+        for name, inner in FIELD.findall(self.structures[type_name]):
             size, alignment, within = self.of(inner)
             at = end + -end % alignment
             out.update({name: (at, size), **{other: (at + first, n) for other, (first, n) in within.items()}})
@@ -49,7 +49,7 @@ class Structure:
         """Returns the value of a constant, or of a number."""
         return int(self.named.get(name, name), 0)
 
-    def room(self):
+    def capacity(self):
         return self.fields["buffer"][1] if "buffer" in self.fields else 0
 
 
@@ -67,7 +67,7 @@ def text_of(path):
 def differences(what, layout, source, marked="marked"):
     """Yields the fields of a layout that lie elsewhere in the source."""
     known = {OTHER_NAMES.get(name, name): at for name, (at, _) in source.fields.items()}
-    known |= {"size": source.size, "room": source.room(), "marked": known.get(marked)}
+    known |= {"size": source.size, "capacity": source.capacity(), "marked": known.get(marked)}
     if hasattr(layout, "accumulators"):
         known["accumulators"] = tuple(known[name] for name in ("v1", "v2", "v3", "v4"))
         known["first_mark"] = source.number("MARK") if marked == "marked" else 0

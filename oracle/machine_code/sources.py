@@ -5,7 +5,7 @@ import struct
 import subprocess
 import tempfile
 
-from symbolic_terms import NotShown, Unsupported
+from oracle.symbolic_terms import NotShown, Unsupported
 
 from .grammar import expect_grammar
 from .object_contents import Object, difference, differences
@@ -26,46 +26,46 @@ global_asm!(include_str!("{source}"), options({options}));
 ASSEMBLERS = "GNU as", "clang", "rustc"
 
 
-def assembled(source, kind, read):
+def assembled(source, arch, read):
     """Assembles a source and returns `read`'s result for the object's path."""
-    expect_grammar(source, kind)
-    with tempfile.TemporaryDirectory(prefix="machine-text-") as room:
-        return read(by_gnu(source, kind, room))
+    expect_grammar(source, arch)
+    with tempfile.TemporaryDirectory(prefix="machine-text-") as workdir:
+        return read(by_gnu(source, arch, workdir))
 
 
-def by_gnu(source, kind, room):
-    made = os.path.join(room, "gnu.o")
-    run([GNU[kind], "--no-warn", source, "-o", made])
-    return made
+def by_gnu(source, arch, workdir):
+    built = os.path.join(workdir, "gnu.o")
+    run([GNU[arch], "--no-warn", source, "-o", built])
+    return built
 
 
-def by_clang(source, kind, room):
-    made = os.path.join(room, "clang.o")
-    run(["clang", "-c", f"--target={TARGETS[kind][0]}", source, "-o", made])
-    return made
+def by_clang(source, arch, workdir):
+    built = os.path.join(workdir, "clang.o")
+    run(["clang", "-c", f"--target={TARGETS[arch][0]}", source, "-o", built])
+    return built
 
 
-def by_rustc(source, kind, room):
-    made, crate = os.path.join(room, "rustc.o"), os.path.join(room, "rustc.rs")
-    _, target, options = TARGETS[kind]
+def by_rustc(source, arch, workdir):
+    built, crate = os.path.join(workdir, "rustc.o"), os.path.join(workdir, "rustc.rs")
+    _, target, options = TARGETS[arch]
     with open(crate, "w", encoding="utf-8") as file:
         file.write(CRATE.format(source=os.path.abspath(source), options=options))
-    run(["rustc", "--crate-type=lib", "--emit=obj", f"--target={target}", crate, "-o", made], RUSTC_BOOTSTRAP="1")
-    return made
+    run(["rustc", "--crate-type=lib", "--emit=obj", f"--target={target}", crate, "-o", built], RUSTC_BOOTSTRAP="1")
+    return built
 
 
-def run(words, **more):
-    done = subprocess.run(words, capture_output=True, text=True, env={**os.environ, **more})
+def run(command, **more):
+    done = subprocess.run(command, capture_output=True, text=True, env={**os.environ, **more})
     if done.returncode:
-        raise Unsupported(f"{words[0]} refuses the text: {done.stderr.strip()[:300]}")
+        raise Unsupported(f"{command[0]} refuses the text: {done.stderr.strip()[:300]}")
 
 
 def expect_alike(sources):
     """Compares each source's objects by the three assemblers: bytes, relocations, names, notes and frames. `sources`
     are (path, kind). Returns the number of equal objects."""
-    for source, kind in sources:
-        with tempfile.TemporaryDirectory(prefix="machine-text-") as room:
-            first, *others = [parts_of(by(source, kind, room)) for by in (by_gnu, by_clang, by_rustc)]
+    for source, arch in sources:
+        with tempfile.TemporaryDirectory(prefix="machine-text-") as workdir:
+            first, *others = [parts_of(by(source, arch, workdir)) for by in (by_gnu, by_clang, by_rustc)]
         for name, other in zip(ASSEMBLERS[1:], others):
             found = next(differences(first, other, difference), None)
             if found:

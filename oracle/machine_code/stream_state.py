@@ -2,10 +2,10 @@
 symbolic length."""
 import contextlib
 
-from symbolic_terms import (NODES, RUNS, SYMBOL, Input, Node, Unsupported, in_order, is_inside, is_natural,
-                            is_same_number, is_within, minus, outside, plus)
+from oracle.symbolic_terms import (NODES, RUNS, SYMBOL, Input, Node, Unsupported, in_order, is_inside, is_natural,
+                                   is_same_number, is_within, minus, outside, plus)
 
-from .memory import Words
+from .memory import WordMemory
 
 windows = {}                      # name of a window's symbol -> (input, offset of the window's byte 0)
 
@@ -25,14 +25,14 @@ def source_of(value, n):
     if len(segments) == 1:
         (length, constant, atoms), = segments
         (number, bit), *others = atoms or [(0, 1)]
-        name = NODES[number].parts[0] if NODES[number].kind is SYMBOL else None
+        name = NODES[number].parts[0] if NODES[number].op is SYMBOL else None
         if length == 8 * n and not constant and not others and name in windows and bit % 8 == 0:
             source, at = windows[name]
             return source, plus(at, bit // 8)
     raise Unsupported(f"a store of {value}, which isn't {n} bytes of an input")
 
 
-class State(Words):
+class State(WordMemory):
     """State that keeps stores to `buffer`, (first, end), as runs, and elsewhere copies of symbolic length."""
 
     def __init__(self, name, length, cells, runs, buffer, alignment=8):

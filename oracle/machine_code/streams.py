@@ -1,9 +1,9 @@
 """Runs the streams of a source: reset, updates that end at given offsets, digest. A state has any content before its
 reset. Each update gets its chunk as a separate memory object. No digest changes the state."""
-from symbolic_terms import Piece, Unsupported, is_same, is_same_number
+from oracle.symbolic_terms import Piece, Unsupported, is_same, is_same_number
 
 from . import layouts
-from .memory import Words
+from .memory import WordMemory
 from .one_shots import NAMES, WAYS, is_plain, name_of, of_seed, suppose_seed, value_of
 from .values import address, low
 
@@ -19,7 +19,7 @@ def new_state(cpu, hash_name, library=None):
     """Returns memory of a state's size, with any content."""
     size = (library or cpu.library).SIZES[state_name(hash_name)]
     cells = [(at, 8, cpu.fresh("a state's word")) for at in range(0, size, 8)]
-    return Words("state", size, cells, alignment=ALIGNMENT.get(hash_name, 8))
+    return WordMemory("state", size, cells, alignment=ALIGNMENT.get(hash_name, 8))
 
 
 def contents(memory, size=8):
@@ -41,11 +41,11 @@ def reset(cpu, request, state):
     """Resets a state by the functions behind c/guards.c. A secret of another length than OWN stays the caller's."""
     name, state.secret = f"{NAMES[request.hash_name]}_reset", None
     if not request.secret:
-        name = name if is_plain(request.hash_name) else f"proved_{name}{WAYS[request.kind]}"
+        name = name if is_plain(request.hash_name) else f"proved_{name}{WAYS[request.variant]}"
         return cpu.call(name, address(state), *of_seed(request))
     if request.secret_length != layouts.OWN:
         state.secret = request.secret
-    name = "twox_c_reset_xxh3_secret" + ("_and_seed" if request.kind == "both" else "")
+    name = "twox_c_reset_xxh3_secret" + ("_and_seed" if request.variant == "both" else "")
     return cpu.call(name, address(state), address(request.secret), request.secret_length, cpu.fresh("an address"), *of_seed(request))
 
 
@@ -89,9 +89,9 @@ class ForC:
         return True
 
     @staticmethod
-    def one_shot(cpu, hash_name, kind, *arguments):
+    def one_shot(cpu, hash_name, variant, *arguments):
         """Returns the hash. Arguments: the message's address and length, the secret's if there is one, the seed."""
-        return value_of(hash_name, cpu.call(name_of(hash_name, kind), *arguments))
+        return value_of(hash_name, cpu.call(name_of(hash_name, variant), *arguments))
 
     @staticmethod
     def reset(cpu, request, state):

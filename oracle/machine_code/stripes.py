@@ -7,8 +7,8 @@ from an iteration that ends a block, and then proved with everything else."""
 import collections
 import functools
 
-from symbolic_terms import (REFUSALS, Input, NotShown, divided, given, is_natural, is_same_number, minus, moved, plus,
-                            same, suppositions, times, variable)
+from oracle.symbolic_terms import (REFUSALS, Input, NotShown, divided, given, is_natural, is_same_number, minus, moved, plus,
+                                   same, suppositions, times, variable)
 
 from . import layouts
 from .induction import Family, Proof
@@ -17,7 +17,7 @@ from .values import Address
 
 # Consecutive stripes: the first place, their number, and the place behind them.
 Part = collections.namedtuple("Part", "start turns end")
-WORDS = PLACE = layouts.TAKEN.current_stripe      # bytes of accumulators, behind which the position in a block lies
+ACCUMULATOR_BYTES = PLACE = layouts.TAKEN.current_stripe      # bytes of accumulators, behind which the position in a block lies
 TAKEN = layouts.TAKEN.size                        # bytes of both
 # For guessed iterations: stripes left, stripes to the block's end, and whether to run two iterations.
 GUESSES = (4, 2, True), (64, 8, True), (64, 4, False)
@@ -153,7 +153,7 @@ class StripesProof(Proof):
                 self.ends_with = 1
         return self.ends_with
 
-    def kinds_of_turns(self):
+    def cases_of_turns(self):
         """Yields (k, i, facts) of iterations: within the first block, at its end, within a later block, at its end."""
         at, whole = self.in_turns()
         t, i, c = (variable(self.cpu.new_name(name)) for name in "tic")
@@ -165,7 +165,7 @@ class StripesProof(Proof):
         yield plus(later, minus(whole, 1)), minus(whole, 1), []
 
     def show_turns(self, left):
-        for k, i, facts in self.kinds_of_turns():
+        for k, i, facts in self.cases_of_turns():
             facts = [*facts, minus(minus(left, 1), k)]
             if any(is_natural(minus(-1, fact)) for fact in facts):      # no such iteration exists
                 continue
@@ -183,7 +183,7 @@ class Summary:
     of xxh3_updates.py proves this of the function; `put_into` assumes it at its calls."""
 
     def __init__(self, name, has_place=True, least=0, has_length=True, is_in_place=False):
-        self.name, self.size, self.has_place, self.least = name, TAKEN if has_place else WORDS, has_place, least
+        self.name, self.size, self.has_place, self.least = name, TAKEN if has_place else ACCUMULATOR_BYTES, has_place, least
         self.has_length = has_length     # whether the secret's length is an argument
         self.is_in_place = is_in_place   # whether it updates the record in place
 
@@ -206,16 +206,16 @@ class Summary:
         """Checks a call's arguments and applies the effect. The caller's frame begins at `floor`."""
         *records, stripes, length, own, own_length = arguments
         self.expect("the places", all(isinstance(x, Address) for x in (*records, stripes, own)))
-        (room, first), (memory, place) = records[0].place(), records[-1].place()
+        (target, first), (memory, place) = records[0].place(), records[-1].place()
         if not self.is_in_place:
-            is_apart = room is not memory or abs(first - place) >= self.size
-            self.expect("the records", is_apart and room is stack and first >= floor)
+            is_apart = target is not memory or abs(first - place) >= self.size
+            self.expect("the records", is_apart and target is stack and first >= floor)
         self.expect("the record", memory is not stack or place >= floor)
-        words = [memory.load(plus(place, 8 * i), 8) for i in range(8)]
+        values = [memory.load(plus(place, 8 * i), 8) for i in range(8)]
         begun = memory.load(plus(place, PLACE), 8) if self.has_place else 0
         part = next((part for part in family.parts if is_same_number(length, times(64, part.turns)) and
                      is_same_number(begun, part.start[1]) and
-                     all(map(same, words, family.words(family.stripes(part.start))))), None)
+                     all(map(same, values, family.values_after(family.stripes(part.start))))), None)
         self.expect(f"the stripes, {length} bytes from {begun} on", part is not None)
         at, end = family.stripes(part.start), family.stripes(part.end)
         self.expect("the number of stripes",
@@ -223,17 +223,17 @@ class Summary:
         self.expect("the piece", is_same_number(length, 0) or is_at(stripes, source, times(64, at), length))
         has_whole = not self.has_length or is_same_number(own_length, secret.length)
         self.expect("the secret", has_whole and is_at(own, secret, 0, secret.length))
-        self.leave(cpu, family, part, room, first)
+        self.leave(cpu, family, part, target, first)
 
-    def leave(self, cpu, family, part, room, first):
-        values = family.words(family.stripes(part.start))
+    def leave(self, cpu, family, part, memory, first):
+        values = family.values_after(family.stripes(part.start))
         if not is_same_number(part.turns, 0):
             values = [cpu.fresh("word") for _ in range(8)]
             family.suppose(family.stripes(part.end), values)
         for i, x in enumerate(values):
-            room.store(first + 8 * i, 8, x)
+            memory.store(first + 8 * i, 8, x)
         if self.has_place:
-            room.store(first + PLACE, 8, part.end[1])
+            memory.store(first + PLACE, 8, part.end[1])
 
     def expect(self, what, holds):
         if not holds:

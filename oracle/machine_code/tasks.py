@@ -3,8 +3,8 @@ import functools
 import itertools
 import os
 
-from symbolic_terms import REFUSALS, TOP, Request, WrongRule, comparison, nodes, variable
-from symbolic_terms.processes import Task
+from oracle.symbolic_terms import REFUSALS, TOP, Request, WrongRule, comparison, nodes, variable
+from oracle.symbolic_terms.processes import Task
 
 from . import (any_secret, any_updates, calls, coverage, every_length, exports, lanes, layouts, long_seeds, one_shots,
                scalar, streams, xxh3_states, xxh3_updates)
@@ -44,11 +44,11 @@ def programs():
 def makers(texts):
     """Maps each name to a function that makes a processor of its source. The tasks' processes share the instructions'
     functions, which are looked up here."""
-    made = {name: functools.partial(CargoProcessor, program) if isinstance(program, CargoProgram) else
-            functools.partial(Processor, program, name) for name, program in texts.items()}
-    for make in made.values():
+    processors = {name: functools.partial(CargoProcessor, program) if isinstance(program, CargoProgram) else
+                  functools.partial(Processor, program, name) for name, program in texts.items()}
+    for make in processors.values():
         make()
-    return made
+    return processors
 
 
 def counted(title, least, ask):
@@ -62,9 +62,9 @@ def counted(title, least, ask):
 
 def choose(options, texts):
     """Returns the tasks on c/asm."""
-    made, is_all = makers(texts), options.all
-    tasks = [*one_shot_tasks(made, is_all), *secret_tasks(made, is_all), *every_length_tasks(made, is_all),
-             *stream_tasks(made, is_all), *call_tasks(texts, made, is_all)]
+    processors, is_all = makers(texts), options.all
+    tasks = [*one_shot_tasks(processors, is_all), *secret_tasks(processors, is_all), *every_length_tasks(processors, is_all),
+             *stream_tasks(processors, is_all), *call_tasks(texts, processors, is_all)]
     tasks += [assembler_task([(f"{FOLDER}/{name}.s", V1) for name in texts])]
     tasks.insert(0, export_task(texts, [task.title for task in tasks]))
     return tasks
@@ -75,96 +75,96 @@ def export_task(texts, titles):
                    lambda: (sum(exports.expect_all(program, titles) for program in texts.values()), []))
 
 
-def before_v4(made):
-    return {name: make for name, make in made.items() if not name.endswith(V4)}
+def before_v4(processors):
+    return {name: make for name, make in processors.items() if not name.endswith(V4)}
 
 
-def only_v4(made):
-    return {name: make for name, make in made.items() if name.endswith(V4)}
+def only_v4(processors):
+    return {name: make for name, make in processors.items() if name.endswith(V4)}
 
 
 # ---- one-shots and streams, compared with the definition's terms
 
-def compared(made, title, requests, side=one_shots):
+def compared(processors, title, requests, side=one_shots):
     """Returns a task of requests, each for all sources: the definition's term is computed once. For XXH32 and XXH64
     x86-64-v4's code equals x86-64-v3's."""
     requests = list(requests)
-    made = before_v4(made) if one_shots.is_plain(requests[0].hash_name) else made
+    processors = before_v4(processors) if one_shots.is_plain(requests[0].hash_name) else processors
     lengths = [request.length for request in requests]
 
     def ask():
-        return comparison.compare({name: functools.partial(side.of_text, make()) for name, make in made.items()}, requests)
-    return counted(f"{title}: {min(lengths)} to {max(lengths)} bytes", len(requests) * len(made), ask)
+        return comparison.compare({name: functools.partial(side.of_text, make()) for name, make in processors.items()}, requests)
+    return counted(f"{title}: {min(lengths)} to {max(lengths)} bytes", len(requests) * len(processors), ask)
 
 
-def one_by_one(made, kind, lengths, more=""):
-    return compared(made, comparison.title_of(*kind) + more, comparison.requests(*kind, lengths))
+def one_by_one(processors, algorithm, lengths, more=""):
+    return compared(processors, comparison.title_of(*algorithm) + more, comparison.requests(*algorithm, lengths))
 
 
-def one_shot_tasks(made, is_all):
+def one_shot_tasks(processors, is_all):
     """Yields the tasks of one-shots. With a secret of 136 bytes x86-64-v4 runs x86-64-v3's code."""
-    yield from [one_by_one(made if is_all or kind[2] is None else before_v4(made), kind,
-                           ONE_BY_ONE if is_all else SOME_SHORT) for kind in comparison.kinds(SECRETS)]
-    for kind in [("3-64", "default", None), ("3-128", "seed", None), ("3-64", "secret", 192)]:
-        yield one_by_one(only_v4(made), kind, EDGES_OF_BLOCKS, f", at the edges of blocks, {V4}")
-    for kind in comparison.kinds(SECRETS) if not is_all else ():
-        yield from [one_by_one(only_v4(made), kind, FEW_LENGTHS, f", {V4}")] if kind[2] else []
-    for kind in comparison.kinds(SECRETS) if is_all else ():
-        yield one_by_one(made, kind, comparison.edges(kind[2]), ", at edges")
-        if kind[2] is None and kind[0].startswith("3-"):
-            yield from [one_by_one(made, kind, MORE), one_by_one(made, kind, [every_length.PREFETCHED])]
+    yield from [one_by_one(processors if is_all or algorithm[2] is None else before_v4(processors), algorithm,
+                           ONE_BY_ONE if is_all else SOME_SHORT) for algorithm in comparison.algorithms(SECRETS)]
+    for algorithm in [("3-64", "default", None), ("3-128", "seed", None), ("3-64", "secret", 192)]:
+        yield one_by_one(only_v4(processors), algorithm, EDGES_OF_BLOCKS, f", at the edges of blocks, {V4}")
+    for algorithm in comparison.algorithms(SECRETS) if not is_all else ():
+        yield from [one_by_one(only_v4(processors), algorithm, FEW_LENGTHS, f", {V4}")] if algorithm[2] else []
+    for algorithm in comparison.algorithms(SECRETS) if is_all else ():
+        yield one_by_one(processors, algorithm, comparison.edges(algorithm[2]), ", at edges")
+        if algorithm[2] is None and algorithm[0].startswith("3-"):
+            yield from [one_by_one(processors, algorithm, MORE), one_by_one(processors, algorithm, [every_length.PREFETCHED])]
 
 
-def secret_tasks(made, is_all):
+def secret_tasks(processors, is_all):
     """Yields the tasks of secrets of several lengths: all, or every third."""
     for hash_name in ("3-64", "3-128"):
-        requests = (Request(hash_name, kind, n, size) for size in SOME_SECRETS for kind in ("secret", "both")
+        requests = (Request(hash_name, variant, n, size) for size in SOME_SECRETS for variant in ("secret", "both")
                     for n in (240, 700))
-        yield compared(made, f"XXH{hash_name}, secrets of 136 to 1000 bytes", list(requests)[::1 if is_all else 3])
+        yield compared(processors, f"XXH{hash_name}, secrets of 136 to 1000 bytes", list(requests)[::1 if is_all else 3])
 
 
-def stream_tasks(made, is_all):
-    for kind in comparison.kinds(STREAM_SECRETS if is_all else SOME_OF_STREAMS):
-        asked = list(few_streams(FEW_STREAMS[::1 if is_all else 2], *kind))
-        yield compared(made, f"streams of {comparison.title_of(*kind)}", asked, streams)
-    yield from plain_stream_tasks(before_v4(made), is_all)
-    yield from xxh3_tasks(made, is_all)
+def stream_tasks(processors, is_all):
+    for algorithm in comparison.algorithms(STREAM_SECRETS if is_all else SOME_OF_STREAMS):
+        asked = list(few_streams(FEW_STREAMS[::1 if is_all else 2], *algorithm))
+        yield compared(processors, f"streams of {comparison.title_of(*algorithm)}", asked, streams)
+    yield from plain_stream_tasks(before_v4(processors), is_all)
+    yield from xxh3_tasks(processors, is_all)
 
 
-def plain_stream_tasks(made, is_all, some=SOME_UPDATES, title="streams of XXH{}: any updates", names=("32", "64")):
+def plain_stream_tasks(processors, is_all, some=SOME_UPDATES, title="streams of XXH{}: any updates", names=("32", "64")):
     """Yields the tasks of streams of XXH32 and XXH64: all cases, in parts, or a sample. Only both have resets and digests."""
     yield counted("each update of XXH32 and XXH64 has its task", 2, updates_left_out)
     for hash_name in names:
         count = len(list(any_updates.updates(hash_name)))
-        for name, make in made.items():
+        for name, make in processors.items():
             for part in range(UPDATE_PARTS) if is_all else [None]:
-                words = f"part {part + 1} of {UPDATE_PARTS}" if is_all else f"each {some}th case"
+                portion = f"part {part + 1} of {UPDATE_PARTS}" if is_all else f"each {some}th case"
                 least = count // (UPDATE_PARTS if is_all else some)
-                yield counted(f"{title.format(hash_name)}, to 2^64 - 1 bytes, {name}, {words}", least, functools.partial(
+                yield counted(f"{title.format(hash_name)}, to 2^64 - 1 bytes, {name}, {portion}", least, functools.partial(
                     any_streams, make, hash_name, part, some, len(names) > 1))
 
 
-def xxh3_tasks(made, is_all, kinds=xxh3_states.KINDS):
+def xxh3_tasks(processors, is_all, proofs=xxh3_states.PROOFS):
     """Yields the tasks of streams of XXH3 with any updates, by proofs of some kinds: all cases, in parts, or a sample."""
-    for kind, (name, make) in itertools.product(kinds, made.items()):
-        yield counted(f"{kind.TITLE}: each case has its task, {name}", COVERED[is_all] // 3,
-                      functools.partial(points_left_out, make, is_all, kind))
-        for what in kind.KINDS:
+    for proof_class, (name, make) in itertools.product(proofs, processors.items()):
+        yield counted(f"{proof_class.TITLE}: each case has its task, {name}", COVERED[is_all] // 3,
+                      functools.partial(points_left_out, make, is_all, proof_class))
+        for what in proof_class.TASKS:
             some, parts = XXH3_CASES[what]
             for part in range(parts) if is_all else [None]:
-                words = f"part {part + 1} of {parts}" if is_all else "some cases"
-                yield counted(f"{kind.TITLE}: {what}, to 2^64 - 1 bytes, {name}, {words}", some,
-                              functools.partial(any_xxh3, make, what, part, kind))
+                portion = f"part {part + 1} of {parts}" if is_all else "some cases"
+                yield counted(f"{proof_class.TITLE}: {what}, to 2^64 - 1 bytes, {name}, {portion}", some,
+                              functools.partial(any_xxh3, make, what, part, proof_class))
 
 
-def points_left_out(make, is_all, kind):
+def points_left_out(make, is_all, proof_class):
     """Returns the number of points, and messages for those that no case contains."""
-    bad = [f"no case has {point}" for point in coverage.left_out(kind(make()), COVERED[is_all] // 3)]
+    bad = [f"no case has {point}" for point in coverage.left_out(proof_class(make()), COVERED[is_all] // 3)]
     return COVERED[is_all] // 3, bad[:5]
 
 
-def any_xxh3(make, what, part, kind):
-    proof = kind(make())
+def any_xxh3(make, what, part, proof_class):
+    proof = proof_class(make())
     asked, (some, parts) = proof.queries(what), XXH3_CASES[what]
     return count_shown(proof, sample(what, asked, some) if part is None else asked[part::parts])
 
@@ -175,9 +175,9 @@ def sample(what, asked, some):
     return [*each.values()] or asked[::len(asked) // some]
 
 
-def few_streams(lengths, hash_name, kind, secret):
+def few_streams(lengths, hash_name, variant, secret):
     for n, *cuts in lengths:
-        request = Request(hash_name, kind, n, secret, cuts=cuts)
+        request = Request(hash_name, variant, n, secret, cuts=cuts)
         yield from [request, *request.with_seed_0()]
 
 
@@ -186,9 +186,9 @@ def updates_left_out():
     return len(layouts.PLAIN) - len(bad), bad
 
 
-def any_streams(make, hash_name, part, some, has_ends, kind=any_updates.AnyUpdates):
+def any_streams(make, hash_name, part, some, has_ends, proof_class=any_updates.AnyUpdates):
     """Proves updates: a part, or a sample. The sample and the first part include the reset and digests, if any."""
-    proof = kind(make(), hash_name)
+    proof = proof_class(make(), hash_name)
     cases = list(any_updates.updates(hash_name))
     asked = [functools.partial(ask, one) for one in (cases[::some] if part is None else cases[part::UPDATE_PARTS])
              for ask in (proof.update, proof.lost_total)]
@@ -212,112 +212,112 @@ def count_shown(proof, asked):
 
 # ---- every length
 
-def every_length_tasks(made, is_all):
+def every_length_tasks(processors, is_all):
     yield counted("every length of XXH32 and XXH64 has its task", 2, plain_left_out)
     if is_all:
         yield counted("every length of XXH3 has its task", 2, xxh3_left_out)
-    for kind in every_length.UNROLLED:
-        yield from of_every_length(before_v4(made), kind, f"XXH{kind}: every length to 2^64 - 1",
-                                   every_length.cases(kind)[::1 if is_all else SOME_OF_PLAIN])
+    for algorithm in every_length.UNROLLED:
+        yield from of_every_length(before_v4(processors), algorithm, f"XXH{algorithm}: every length to 2^64 - 1",
+                                   every_length.cases(algorithm)[::1 if is_all else SOME_OF_PLAIN])
     if not is_all:
         yield from [task for name in ("3-64", "3-128") for task in of_every_length(
-            made, f"{name}:seed", f"XXH{name}, seed: two cases of every length", every_length.cases(f"{name}:seed")[:2])]
-    yield from [*long_tasks(made, is_all), *(short_tasks_of_v4(made) if is_all else ())]
+            processors, f"{name}:seed", f"XXH{name}, seed: two cases of every length", every_length.cases(f"{name}:seed")[:2])]
+    yield from [*long_tasks(processors, is_all), *(short_tasks_of_v4(processors) if is_all else ())]
 
 
-def long_tasks(made, is_all):
+def long_tasks(processors, is_all):
     """Yields the tasks of XXH3 of every length: all cases, or some with a secret."""
-    yield from any_secret_tasks(made, is_all, ANY_SECRET)
+    yield from any_secret_tasks(processors, is_all, ANY_SECRET)
     for hash_name, way in itertools.product(("3-64", "3-128"), ("default", "seed")) if is_all else ():
-        kind = f"{hash_name}:{way}"
+        algorithm = f"{hash_name}:{way}"
         for seed in (None, 0) if way == "seed" else (None,):
             title = f"XXH{hash_name}, {way}{' 0' if seed == 0 else ''}: every length to 2^64 - 1"
-            yield from of_every_length(made, kind, title, every_length.cases(kind), seed)
-    yield from [counted(f"XXH{kind.replace(':', ', ')} of any length: 0 to 240 bytes, {name}", 241, functools.partial(
-        up_to_240, make, kind)) for kind in (ANY_SECRET if is_all else ()) for name, make in made.items()]
+            yield from of_every_length(processors, algorithm, title, every_length.cases(algorithm), seed)
+    yield from [counted(f"XXH{algorithm.replace(':', ', ')} of any length: 0 to 240 bytes, {name}", 241, functools.partial(
+        up_to_240, make, algorithm)) for algorithm in (ANY_SECRET if is_all else ()) for name, make in processors.items()]
 
 
-def any_secret_tasks(made, is_all, kinds):
+def any_secret_tasks(processors, is_all, algorithms):
     """Yields the tasks of XXH3 from 241 bytes on with any secret: all cases, or some."""
     yield counted("every length with any secret has its task", COVERED[is_all],
-                  functools.partial(secrets_left_out, made, is_all))
-    for kind in kinds:
-        title, words = f"XXH{kind.replace(':', ', ')} of", "" if is_all else ", some cases"
-        yield from [counted(f"{title} any other length: every length from 241 on, {name}{words}", 2,
-                            functools.partial(any_secrets, make, kind, 1 if is_all else SOME_LENGTHS[kind != kinds[0]]))
-                    for name, make in made.items()]
+                  functools.partial(secrets_left_out, processors, is_all))
+    for algorithm in algorithms:
+        title, portion = f"XXH{algorithm.replace(':', ', ')} of", "" if is_all else ", some cases"
+        yield from [counted(f"{title} any other length: every length from 241 on, {name}{portion}", 2,
+                            functools.partial(any_secrets, make, algorithm, 1 if is_all else SOME_LENGTHS[algorithm != algorithms[0]]))
+                    for name, make in processors.items()]
         if is_all:
             title = f"{title} 192 to 199 bytes: every length from 241 on"
-            yield from of_every_length(before_v4(made), kind, title, every_length.of_secret())
-            yield from of_every_length(only_v4(made), kind, title, every_length.of_secret_by_turns())
+            yield from of_every_length(before_v4(processors), algorithm, title, every_length.of_secret())
+            yield from of_every_length(only_v4(processors), algorithm, title, every_length.of_secret_by_turns())
 
 
-def short_tasks_of_v4(made):
+def short_tasks_of_v4(processors):
     """Returns tasks of secrets of 192 bytes for x86-64-v4: the lengths missing in its tasks of every length."""
-    return [one_by_one(only_v4(made), (*kind.split(":"), 192), [*range(241, MORE.stop), every_length.PREFETCHED], f", {V4}")
-            for kind in ANY_SECRET]
+    return [one_by_one(only_v4(processors), (*algorithm.split(":"), 192), [*range(241, MORE.stop), every_length.PREFETCHED], f", {V4}")
+            for algorithm in ANY_SECRET]
 
 
-def of_every_length(made, kind, title, asked, seed=None):
-    return [counted(f"{title}, {name}", len(asked), functools.partial(shown, make, kind, asked, seed))
-            for name, make in made.items()]
+def of_every_length(processors, algorithm, title, asked, seed=None):
+    return [counted(f"{title}, {name}", len(asked), functools.partial(shown, make, algorithm, asked, seed))
+            for name, make in processors.items()]
 
 
 def plain_left_out():
-    return told_left_out({f"XXH{name}": every_length.left_out(every_length.cases(name), ONE_BY_ONE.stop,
-                                                              int(name) // 2 * every_length.UNROLLED[name])
-                          for name in every_length.UNROLLED})
+    return report_left_out({f"XXH{name}": every_length.left_out(every_length.cases(name), ONE_BY_ONE.stop,
+                                                                int(name) // 2 * every_length.UNROLLED[name])
+                            for name in every_length.UNROLLED})
 
 
 def xxh3_left_out():
     """Returns the lengths without a case. The length PREFETCHED of a default or derived secret has a separate task."""
     derived = every_length.left_out(every_length.cases("3-64:seed"), MORE.stop, 64 * every_length.DERIVED)
     own = every_length.left_out(every_length.of_secret(), 241, 64 * every_length.DERIVED)
-    return told_left_out({"a secret of 192 bytes": own,
-                          "a derived secret": sorted({*derived} - {every_length.PREFETCHED})})
+    return report_left_out({"a secret of 192 bytes": own,
+                            "a derived secret": sorted({*derived} - {every_length.PREFETCHED})})
 
 
-def told_left_out(found):
+def report_left_out(found):
     return len(found), [f"{name}: no task has {left[:5]}" for name, left in found.items() if left]
 
 
-def shown(make, kind, asked, seed):
-    proof = every_length.EveryLength(make(), kind)
+def shown(make, algorithm, asked, seed):
+    proof = every_length.EveryLength(make(), algorithm)
     return count_shown(proof, [functools.partial(proof.show, case, seed) for case in asked])
 
 
-def secrets_left_out(made, is_all):
+def secrets_left_out(processors, is_all):
     """The same for lengths with secrets of any length."""
-    proof = any_secret.AnySecret(next(iter(made.values()))())
+    proof = any_secret.AnySecret(next(iter(processors.values()))())
     found = list(coverage.without_one_shot(proof.cases(), proof.facts, COVERED[is_all]))
     return COVERED[is_all], [f"no case has {point}" for point in found[:5]]
 
 
-def any_secrets(make, kind, step):
-    hash_name, _, way = kind.partition(":")
+def any_secrets(make, algorithm, step):
+    hash_name, _, way = algorithm.partition(":")
     proof = any_secret.AnySecret(make())
     return count_shown(proof, proof.queries(way, hash_name[2:])[::step])
 
 
-def up_to_240(make, kind):
-    proof = every_length.EveryLength(make(), kind)
+def up_to_240(make, algorithm):
+    proof = every_length.EveryLength(make(), algorithm)
     return count_shown(proof, [functools.partial(proof.show_short, n) for n in range(241)])
 
 
 # ---- the other calls
 
-def of_each(made, title, least, call):
+def of_each(processors, title, least, call):
     """Returns a task that calls a function on each processor. The function returns its number of cases, or raises."""
-    return counted(title, least * len(made), lambda: (sum(call(make()) for make in made.values()), []))
+    return counted(title, least * len(processors), lambda: (sum(call(make()) for make in processors.values()), []))
 
 
 def call_tasks(texts, processors, is_all):
     sizes = [0, 1, 135, 136, 137, 143, 144, 191, 192, 256, 1000] if not is_all else [*range(0, 301), 1000]
     seeds = [0, 1, 17, 136, 241, 300, 1100] if is_all else [0, 3, 241, 1100]
-    made = [(size, length) for size in sizes for length in (seeds if is_all or size == 136 else seeds[size % 4:][:1])]
+    generated = [(size, length) for size in sizes for length in (seeds if is_all or size == 136 else seeds[size % 4:][:1])]
     of = functools.partial(of_each, before_v4(processors))
     return [*(of(*call) for call in calls.WITHOUT_MESSAGE), *(of_each(processors, *call) for call in calls.OF_MESSAGES + calls.SHORT_SECRETS),
-            of_each(processors, "made secrets", len(made) + len(OF_LONG_SEEDS), functools.partial(made_secrets, asked=made)),
+            of_each(processors, "made secrets", len(generated) + len(OF_LONG_SEEDS), functools.partial(generated_secrets, asked=generated)),
             counted(f"exports of {V4} that have the code of {V3}", 24,
                     lambda: (exports.expect_code_of_v3(texts[V4], texts[V3]), [])),
             twin_task(texts), frames_task(texts)]
@@ -334,8 +334,8 @@ def frames_task(texts, least=FEWEST_FRAMED):
                    lambda: (sum(map(expect_frames, texts.values())), []))
 
 
-def made_secrets(cpu, asked):
-    return calls.made_secrets(cpu, asked) + long_seeds.made_secrets(cpu, OF_LONG_SEEDS)
+def generated_secrets(cpu, asked):
+    return calls.generated_secrets(cpu, asked) + long_seeds.generated_secrets(cpu, OF_LONG_SEEDS)
 
 
 def assembler_task(sources):

@@ -5,7 +5,7 @@ may follow, a register stays where it was, or is stored or loaded, exactly as th
 Stores through another register than the stack pointer aren't followed here."""
 import struct
 
-from symbolic_terms import NotShown, signed
+from oracle.symbolic_terms import NotShown, signed
 
 from .instructions import PARTS, VECTORS
 from .object_contents import CODE, Table
@@ -86,13 +86,13 @@ def followed(processor, code, section, table):
 
 def difference(processor, x, before, after):
     """Returns how the frame after an instruction differs from the table's, or None."""
-    (depth, saved), (low_end, kept) = before, after
+    (depth, saved), (low_end, restored) = before, after
     lowered, stored, loaded, changed, (first, end) = processor.effect(x)
     if low_end != depth + lowered or "rsp" in changed or "sp" in changed:
         return f"the stack pointer is {depth + lowered} bytes below, and not {low_end}"
     is_spoiled = {number for number, at in saved.items() if at < end - depth and first - depth < at + 8}
     for name, number in [*processor.NUMBERS.items(), *((None, number) for number in processor.ENTRY[1])]:
-        at, place = kept.get(number), saved.get(number)
+        at, place = restored.get(number), saved.get(number)
         if at is None:
             is_there = name not in changed if place is None else name in loaded and loaded[name] - depth == place
         else:
@@ -100,4 +100,4 @@ def difference(processor, x, before, after):
                                            place is None and name in stored and stored[name] - depth == at)
         if not is_there:
             return f"register {number} isn't at {'its place' if at is None else at}"
-    return f"of {kept.keys()}" if kept.keys() - {*processor.NUMBERS.values(), *processor.ENTRY[1]} else None
+    return f"of {restored.keys()}" if restored.keys() - {*processor.NUMBERS.values(), *processor.ENTRY[1]} else None

@@ -5,8 +5,8 @@ is a number. An object's address is only known to be nonzero and aligned. Values
 operations.py are also compared at the points."""
 import contextlib
 
-from symbolic_terms import (BINARY, Node, Poly, Undecided, WrongRule, as_word, constant_of, divided, is_natural, lifted,
-                            minus, nodes, ones, operations, parts_of, plus, symbol, wrapped, zeros_below)
+from oracle.symbolic_terms import (BINARY, Node, Poly, Undecided, WrongRule, as_word, constant_of, divided, is_natural, lifted,
+                                   minus, nodes, ones, operations, parts_of, plus, symbol, wrapped, zeros_below)
 
 WORD = 64
 HALF, WHOLE = 1 << 63, 1 << 64
@@ -14,11 +14,11 @@ HALF, WHOLE = 1 << 63, 1 << 64
 
 class Names:
     """Fresh names. Other processors may use the same name with the same width."""
-    made = 0
+    fresh_count = 0
 
     def new_name(self, prefix):
-        self.made += 1
-        return f"{prefix}#{self.made}"
+        self.fresh_count += 1
+        return f"{prefix}#{self.fresh_count}"
 
     def fresh(self, prefix, width=WORD):
         """Returns a fresh symbol."""
@@ -126,16 +126,16 @@ halves = nodes.memo()        # number of a 64-bit term -> (its low bits, compute
 
 def arithmetic(word, width, a, b):
     """Returns an operation's result on two values, modulo 2 ^ width."""
-    kinds = {a.__class__, b.__class__}
+    classes = {a.__class__, b.__class__}
     if word in ("xor", "and") and isinstance(a, int):
         a, b = b, a
-    if word == "or" and width == WORD and kinds in ({Poly}, {Poly, int}):
+    if word == "or" and width == WORD and classes in ({Poly}, {Poly, int}):
         return Either([a, b], ones(WORD))
-    if Either in kinds:
+    if Either in classes:
         return masked(word, a, b)
-    if Address in kinds:
+    if Address in classes:
         return with_address(word, width, a, b)
-    if Poly in kinds and isinstance(b, int) and word in ("xor", "and"):
+    if Poly in classes and isinstance(b, int) and word in ("xor", "and"):
         return with_number(word, width, a, b)
     answer = BINARY[word](width, a, b)
     if word == "lshr" and isinstance(a, Poly) and isinstance(answer, Node) and isinstance(b, int):

@@ -5,8 +5,8 @@ if there is no whole block."""
 import functools
 import itertools
 
-from symbolic_terms import Poly, minus, names_of, parts_of, plus, times, variable
-from symbolic_terms.polynomials import is_sum_of_facts
+from oracle.symbolic_terms import Poly, minus, names_of, parts_of, plus, times, variable
+from oracle.symbolic_terms.polynomials import is_sum_of_facts
 
 BLOCKS = "D"                      # the variable for the number of blocks
 TRIED = 2                         # number of facts combined to refute another one

@@ -3,8 +3,8 @@ update by a chunk that doesn't fit in the buffer adds its length, and is one cal
 import functools
 import itertools
 
-from symbolic_terms import (LONGEST, NotShown, Piece, at_most, given, is_natural, is_same_number, minus, nodes, plus, same, times,
-                            variable)
+from oracle.symbolic_terms import (LONGEST, NotShown, Piece, at_most, given, is_natural, is_same_number, minus, nodes, plus, same, times,
+                                   variable)
 
 from . import exports, layouts, streams
 from .memory import ENTRY
@@ -31,7 +31,7 @@ class Through(Xxh3Updates):
         """Empty: these functions don't change totals."""
 
     def size(self):
-        return self.at.buffer + self.room
+        return self.at.buffer + self.capacity
 
     def write(self, cpu, _, state, piece):
         total = state.load(self.at.total_bytes, 8)
@@ -44,7 +44,7 @@ class Through(Xxh3Updates):
 
 class CallersSecret(Xxh3Updates):
     """Proofs of states with a secret of the caller, of any length, and with each mark."""
-    at, KINDS, TITLE = layouts.STATE, (UPDATES, DIGESTS), "streams of XXH3, a caller's secret"
+    at, TASKS, TITLE = layouts.STATE, (UPDATES, DIGESTS), "streams of XXH3, a caller's secret"
     MARKS, SPANS = layouts.CALLERS_MARKS, ((1, LONG_PIECE - 1), (LONG_PIECE, None))      # lengths that have a path
 
     def queries(self, what):
@@ -67,10 +67,10 @@ class CallersSecret(Xxh3Updates):
     def long_pieces(self):
         """Yields the chunks that don't fit, as arguments of `long_update`."""
         b, j, f, n = (variable(name) for name in "bjfn")
-        for place, buffered, facts in (((0, 0), 0, []), ((b, j), f, [minus(minus(self.q, 1), j), minus(f, 1), at_most(f, self.room)])):
-            length = plus(minus(self.room + 1, buffered), n)
+        for place, buffered, facts in (((0, 0), 0, []), ((b, j), f, [minus(minus(self.q, 1), j), minus(f, 1), at_most(f, self.capacity)])):
+            length = plus(minus(self.capacity + 1, buffered), n)
             for least, most in self.SPANS:
-                if most is None or buffered is f or most > self.room:
+                if most is None or buffered is f or most > self.capacity:
                     yield place, buffered, length, [*facts, minus(length, least), *([at_most(length, most)] if most else [])], not most
 
     def long_update(self, place, f, length, facts, is_long, is_lost):
@@ -85,16 +85,16 @@ class CallersSecret(Xxh3Updates):
                 state.store(self.at.total_bytes, 8, minus(LONGEST, lost) if is_lost else begun)
                 expected = {**state.cells, self.at.total_bytes: (8, LONGEST if is_lost else plus(begun, length))}
                 self.run([state], functools.partial(self.ask_long, calls), [], state, Piece(self.source, begun, length))
-                if [kind for kind, _ in calls] != [is_long] or any(state.cells[at] is not x for at, x in calls[0][1].items()):
+                if [index for index, _ in calls] != [is_long] or any(state.cells[at] is not x for at, x in calls[0][1].items()):
                     raise NotShown(f"an update of {length} bytes: {len(calls)} calls, or a change after one")
                 self.expect_cells("a call for a chunk that doesn't fit", state, expected)
 
     def ask_long(self, calls, state, piece):
-        for kind, name in enumerate(BOTH):
-            self.cpu.replaced[self.cpu.program.functions[name]] = functools.partial(self.called, calls, kind, state, piece)
+        for index, name in enumerate(BOTH):
+            self.cpu.replaced[self.cpu.program.functions[name]] = functools.partial(self.called, calls, index, state, piece)
         self.library.update(self.cpu, "3-64", state, piece)
 
-    def called(self, calls, kind, state, piece):
+    def called(self, calls, index, state, piece):
         """Checks a call of a function of `Through`."""
         counts, chunk, length, secret, size, buffer = map(self.cpu.argument, self.cpu.TAKES_STRIPES)
         is_secret = secret.place() == (state, self.at.secret) if self.secret_runs() else is_at(secret, self.secret_source, 0, size)
@@ -103,7 +103,7 @@ class CallersSecret(Xxh3Updates):
                 chunk.place() != (piece, 0) or not is_same_number(length, piece.length) or not is_secret or \
                 not is_same_number(size, self.secret_length):
             raise NotShown(f"a call of {THROUGH} with {length} bytes, and a secret of {size}")
-        calls.append((kind, dict(state.cells)))
+        calls.append((index, dict(state.cells)))
         return self.cpu.return_from_another()
 
     # ---- reset
@@ -127,7 +127,7 @@ class CallersSecret(Xxh3Updates):
             answer = self.run([state], name, [], address(state), *arguments,
                               not_zero=[seed] if isinstance(seed, nodes.Node) and not is_given else [])
             streams.expect_answer(answer, streams.OK)
-            expected = [*self.words(map(self.after(0), range(8))), *self.numbers((0, 0), 0)]
+            expected = [*self.cells_of(map(self.after(0), range(8))), *self.numbers((0, 0), 0)]
             expected += self.own() if self.has_seed else self.own()[:-1]
             secret = self.secret if is_given else self.texts["derived_secret"](seed)
             own = range(0, layouts.OWN, 8) if self.secret_runs() else ()
@@ -171,4 +171,4 @@ class OwnSecret(CallersSecret):
             yield (b, j), f, [minus(plus(times(64, self.stripes((b, j))), f), SHORT + 1), at_most(h, 63)], [Part((b, j), g, end)]
 
 
-KINDS = Through, CallersSecret, OwnSecret
+PROOFS = Through, CallersSecret, OwnSecret

@@ -13,13 +13,13 @@ import collections
 import functools
 import itertools
 
-from symbolic_terms import (LONGEST, LONGEST_SECRET, RUNS, Bytes, NotShown, Piece, at_most, given, is_natural, is_same,
-                            is_same_number, minus, nodes, plus, same, suppositions, times, variable)
+from oracle.symbolic_terms import (LONGEST, LONGEST_SECRET, RUNS, Bytes, NotShown, Piece, at_most, given, is_natural, is_same,
+                                   is_same_number, minus, nodes, plus, same, suppositions, times, variable)
 
 from . import layouts
 from .every_length import FAR, Cases
 from .induction import Loops
-from .memory import ENTRY, Words
+from .memory import ENTRY, WordMemory
 from .stream_state import Source, State
 from .stripes import DEEP, Part, Stripes, StripesProof, Summary
 from .values import address
@@ -94,12 +94,12 @@ EMPTY = Start((0, 0), 0, 0, (0, 0), [])
 class Xxh3Updates(Cases):
     at = layouts.CORE
     HAS_SEED, has_seed = (0, 1), 0      # whether a stream was created with a seed
-    KINDS = UPDATES, STRIPES      # the kinds of tasks of a source
+    TASKS = UPDATES, STRIPES      # the kinds of tasks of a source
     HAS_COUNTERS = True           # that stay at 2 ^ 64 - 1
     longest_secret, longest_piece = LONGEST_SECRET, LONGEST
 
     def __init__(self, cpu):
-        self.cpu, self.room, self.whole = cpu, self.at.room, self.at.room // STRIPE
+        self.cpu, self.capacity, self.whole = cpu, self.at.capacity, self.at.capacity // STRIPE
         self.use(variable("q"))
 
     def use(self, q, u=None):
@@ -171,21 +171,21 @@ class Xxh3Updates(Cases):
         """Returns the runs of the secret, if a state stores it."""
         return []
 
-    def words(self, values):
+    def cells_of(self, values):
         """Returns the cells of accumulators: (offset, value)."""
         return [(self.at.accumulator + 8 * k, x) for k, x in enumerate(values)]
 
     def last_stripe(self, source, end):
         """Returns the run of a buffer's last 64 bytes, if they are those of a source that end at `end`."""
-        high = self.at.buffer + self.room
+        high = self.at.buffer + self.capacity
         return high - STRIPE, high, source, minus(end, high)
 
     def state(self, place, f, runs=(), has_seed=None, seed=None):
         self.has_seed = self.has_seed if has_seed is None else has_seed
         self.seed = self.cpu.fresh("seed") if seed is None else seed
-        cells = [*self.words(self.accumulators(place)), *self.numbers(place, f), *self.own()]
+        cells = [*self.cells_of(self.accumulators(place)), *self.numbers(place, f), *self.own()]
         state = State("state", self.size(), [(at, 8, x) for at, x in cells],
-                      [*self.buffered(place, f), *runs, *self.secret_runs()], (self.at.buffer, self.at.buffer + self.room))
+                      [*self.buffered(place, f), *runs, *self.secret_runs()], (self.at.buffer, self.at.buffer + self.capacity))
         state.secret = None if self.secret_runs() else self.secret_source
         return state
 
@@ -193,8 +193,8 @@ class Xxh3Updates(Cases):
         return self.library.SIZES["3"]
 
     def expect_state(self, what, state, place, f, runs, counters):
-        words = map(self.after(self.stripes(place)), range(8))
-        cells = [*self.words(words), *self.numbers(place, f), *self.own()]
+        values = map(self.after(self.stripes(place)), range(8))
+        cells = [*self.cells_of(values), *self.numbers(place, f), *self.own()]
         for at, x in ((at, counters.get(at, x)) for at, x in cells):
             found = state.load(at, 8)
             if not (is_same(found, x) or is_same_number(found, x)):
@@ -258,9 +258,9 @@ class Xxh3Updates(Cases):
         self.begin(plus(ended, variable("rest")))
         most = [minus(LONGEST, variable("lost"))] if lost else []
         with given(*self.facts, *facts, *most, at_most(self.source.length, LONGEST)):
-            kept = [self.last_stripe(Source("last", STRIPE), STRIPE)] if is_short and not parts else []
-            last = [self.last_stripe(self.source, times(64, self.stripes(end[0])))] if is_short and parts else kept
-            state = self.state(*start, kept)
+            stored = [self.last_stripe(Source("last", STRIPE), STRIPE)] if is_short and not parts else []
+            last = [self.last_stripe(self.source, times(64, self.stripes(end[0])))] if is_short and parts else stored
+            state = self.state(*start, stored)
             for at in lost:
                 state.store(at, 8, lost[at])
             piece = Piece(self.source, begun, length)
@@ -295,7 +295,7 @@ class Xxh3Updates(Cases):
         for place, of_place, buffered in (((0, 0), [], 0), ((b, j), [minus(minus(self.q, 1), j), minus(f, 1)], f)):
             for n, of_n in sizes:
                 yield (place, buffered), (place, plus(buffered, n)), n, [*of_place, *of_n,
-                                                                         at_most(plus(buffered, n), self.room)]
+                                                                         at_most(plus(buffered, n), self.capacity)]
 
     @staticmethod
     def ways_from_33(more):
@@ -333,7 +333,7 @@ class Xxh3Updates(Cases):
                 for n, place, of_n in self.end_of(start.behind, to, max(1, least - start.g) if isinstance(start.g, int) else 1):
                     f = minus(times(64, start.g), start.r)
                     length = plus(start.r, times(64, n), left)
-                    facts = [*start.facts, *of_left, *of_n, minus(plus(f, length), self.room + 1),
+                    facts = [*start.facts, *of_left, *of_n, minus(plus(f, length), self.capacity + 1),
                              minus(plus(start.g, n), least)]
                     facts.append(minus(length, LONG_PIECE) if to == "many" else at_most(length, LONG_PIECE - 1))
                     parts = Part(start.place, start.g, start.behind), Part(start.behind, n, place)
@@ -385,8 +385,8 @@ class Xxh3Updates(Cases):
             value = self.run([state], self.library.digest, parts, self.cpu, f"3-{width}", state)
             self.expect_cells("a digest", state, before)
             secret = self.texts["effective_secret"](self.secret, self.message) if has_seed else self.secret
-            said = self.texts[f"xxh3_{width}"](seed if has_seed else 0, secret, self.message)
-            if not is_same(value, said):
+            expected = self.texts[f"xxh3_{width}"](seed if has_seed else 0, secret, self.message)
+            if not is_same(value, expected):
                 raise NotShown(f"a digest of {n} bytes: another value")
 
     # ---- the functions that take stripes
@@ -405,12 +405,12 @@ class Xxh3Updates(Cases):
         place, turns, end = parts[0].start, plus(*(part.turns for part in parts)), parts[-1].end
         self.begin(plus(times(64, self.stripes(end)), variable("rest")))
         with given(*self.facts, *facts, at_most(self.source.length, LONGEST)):
-            words = self.accumulators(place)
-            cells = [(8 * i, 8, x) for i, x in enumerate(words)]
+            values = self.accumulators(place)
+            cells = [(8 * i, 8, x) for i, x in enumerate(values)]
             cells += [(layouts.TAKEN.current_stripe, 8, place[1])] if summary.has_place else []
-            taken = Words("taken", summary.size, cells, alignment=8)
-            to = Words("to", summary.size, [(at, 8, self.cpu.fresh("a word")) for at in range(0, summary.size, 8)],
-                       alignment=8)
+            taken = WordMemory("taken", summary.size, cells, alignment=8)
+            to = WordMemory("to", summary.size, [(at, 8, self.cpu.fresh("a word")) for at in range(0, summary.size, 8)],
+                            alignment=8)
             piece = Piece(self.source, times(64, self.stripes(place)), times(64, turns))
             records = [taken] if summary.is_in_place else [to, taken]
             self.run(records, self.taker(summary), parts, *map(address, records), address(piece), piece.length,

@@ -258,8 +258,8 @@ def xxh3(width, message, n, secret, size, seed):
 
 def derived(seed):
     """Returns the secret derived from a seed."""
-    default, words = of_bytes(DEFAULT_SECRET), []
+    default, parts = of_bytes(DEFAULT_SECRET), []
     for i in range(12):
-        words += [R(add(default(16 * i, 8), seed)), R(subtract(default(16 * i + 8, 8), seed))]
-    whole = join(*words)
+        parts += [R(add(default(16 * i, 8), seed)), R(subtract(default(16 * i + 8, 8), seed))]
+    whole = join(*parts)
     return lambda at, n: cut(whole, 8 * at, 8 * n)

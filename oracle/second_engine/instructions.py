@@ -3,7 +3,7 @@ from .machine import LANES, Processor, Refused, width_of
 from .terms import (add, bitwise, constant, cut, join, multiply, product, rotate_left, shift_left, shift_right, subtract, swapped,
                     widened)
 
-WORDS, VECTORS = {}, {}
+SCALARS, VECTORS = {}, {}
 
 
 def of(table, names):
@@ -15,7 +15,7 @@ def of(table, names):
 
 # ---- words
 
-@of(WORDS, "mov movabs movq movl movb movw movzbl movzwl movbe")
+@of(SCALARS, "mov movabs movq movl movb movw movzbl movzwl movbe")
 def move(cpu, mnemonic, operands, target):
     if any(x.startswith(("%xmm", "%ymm")) for x in operands):
         return NotImplemented
@@ -25,18 +25,18 @@ def move(cpu, mnemonic, operands, target):
     cpu.put(operands[1], swapped(x) if mnemonic == "movbe" else widened(x, width), target)
 
 
-@of(WORDS, "bswap")
+@of(SCALARS, "bswap")
 def swap(cpu, _, operands, __):
     width = width_of("", operands)
     cpu.put(operands[0], swapped(cpu.get(operands[0], width)))
 
 
-@of(WORDS, "lea")
+@of(SCALARS, "lea")
 def load_address(cpu, mnemonic, operands, target):
     cpu.put(operands[1], cut(cpu.address(operands[0], target), 0, width_of(mnemonic, operands)))
 
 
-@of(WORDS, "push pop")
+@of(SCALARS, "push pop")
 def on_stack(cpu, mnemonic, operands, _):
     if mnemonic == "push":
         cpu.push(cpu.get(operands[0], 64))
@@ -48,7 +48,7 @@ BINARY = {"add": add, "sub": subtract, "cmp": subtract, "and": lambda a, b: bitw
           "xor": lambda a, b: bitwise("xor", a, b), "test": lambda a, b: bitwise("and", a, b)}
 
 
-@of(WORDS, " ".join(f"{name}{size}" for name in BINARY for size in ("", "b", "w", "l", "q")))
+@of(SCALARS, " ".join(f"{name}{size}" for name in BINARY for size in ("", "b", "w", "l", "q")))
 def binary(cpu, mnemonic, operands, target):
     name = mnemonic if mnemonic in BINARY else mnemonic[:-1]
     width = width_of(mnemonic, operands)
@@ -59,7 +59,7 @@ def binary(cpu, mnemonic, operands, target):
         cpu.put(operands[1], result, target)
 
 
-@of(WORDS, "inc dec neg not incq decq")
+@of(SCALARS, "inc dec neg not incq decq")
 def unary(cpu, mnemonic, operands, target):
     width = width_of(mnemonic, operands)
     x = cpu.get(operands[0], width, target)
@@ -72,7 +72,7 @@ def unary(cpu, mnemonic, operands, target):
     cpu.put(operands[0], result, target)
 
 
-@of(WORDS, "shl shr rol ror rorx")
+@of(SCALARS, "shl shr rol ror rorx")
 def shift(cpu, mnemonic, operands, target):
     width = width_of(mnemonic, operands[-1:])
     by = cpu.number(cpu.get(operands[0], 8)) % width if len(operands) > 1 else 1
@@ -82,7 +82,7 @@ def shift(cpu, mnemonic, operands, target):
     cpu.put(operands[-1], result, target)
 
 
-@of(WORDS, "shld shrd")
+@of(SCALARS, "shld shrd")
 def double_shift(cpu, mnemonic, operands, target):
     width = width_of(mnemonic, operands[1:])
     by, b, a = cpu.number(cpu.get(operands[0], 8)) % width, *(cpu.get(x, width, target) for x in operands[1:])
@@ -91,7 +91,7 @@ def double_shift(cpu, mnemonic, operands, target):
     cpu.flags = None
 
 
-@of(WORDS, "imul mul mulx div")
+@of(SCALARS, "imul mul mulx div")
 def multiplied(cpu, mnemonic, operands, target):
     width = width_of(mnemonic, operands)
     if mnemonic == "div":
@@ -115,7 +115,7 @@ def multiplied(cpu, mnemonic, operands, target):
 CONDITIONS = "e", "ne", "b", "ae", "a", "be"
 
 
-@of(WORDS, " ".join(f"set{x} cmov{x}" for x in CONDITIONS))
+@of(SCALARS, " ".join(f"set{x} cmov{x}" for x in CONDITIONS))
 def by_condition(cpu, mnemonic, operands, target):
     if mnemonic.startswith("set"):
         cpu.put(operands[0], constant(cpu.condition(mnemonic[3:]), 8), target)
@@ -188,8 +188,8 @@ def shuffle(cpu, mnemonic, operands, target):
     by, lanes = int(operands[0][1:], 16), cpu.lanes(operands[1], count_of(operands), target)
     found = []
     for k in range(0, len(lanes), 2):
-        words = [cut(lanes[k + j // 2], 32 * (j % 2), 32) for j in range(4)]
-        chosen = [words[by >> 2 * j & 3] for j in range(4)]
+        parts = [cut(lanes[k + j // 2], 32 * (j % 2), 32) for j in range(4)]
+        chosen = [parts[by >> 2 * j & 3] for j in range(4)]
         found += [join(*chosen[:2]), join(*chosen[2:])]
     cpu.put_lanes(operands[-1], found, mnemonic[0] != "v")
 
@@ -198,11 +198,11 @@ def shuffle(cpu, mnemonic, operands, target):
 def shuffle_two(cpu, mnemonic, operands, target):
     """Takes two words of the first source, which is written last, and two of the second."""
     by, (second, first) = int(operands[0][1:], 16), (cpu.lanes(x, count_of(operands), target) for x in operands[1:3])
-    words = [cut(lanes[k // 2], 32 * (k % 2), 32) for lanes, places in ((first, (0, 2)), (second, (4, 6)))
+    parts = [cut(lanes[k // 2], 32 * (k % 2), 32) for lanes, places in ((first, (0, 2)), (second, (4, 6)))
              for k in (by >> place & 3 for place in places)]
     if len(first) != 2:
         raise Refused(f"{mnemonic} of {len(first)} lanes")
-    cpu.put_lanes(operands[-1], [join(*words[:2]), join(*words[2:])], False)
+    cpu.put_lanes(operands[-1], [join(*parts[:2]), join(*parts[2:])], False)
 
 
 @of(VECTORS, "punpcklqdq punpckhqdq vpunpcklqdq vpunpckhqdq")
@@ -279,4 +279,4 @@ def shuffle_bytes(cpu, mnemonic, operands, target):
     cpu.put_lanes(operands[-1], found, mnemonic[0] != "v")
 
 
-Processor.tables = WORDS, VECTORS
+Processor.tables = SCALARS, VECTORS

@@ -5,9 +5,9 @@ import subprocess
 from .terms import Term, add, constant, cut, join, ones, representative, shift_left, subtract, variable, widened
 
 REGISTERS = "rax rcx rdx rbx rsp rbp rsi rdi r8 r9 r10 r11 r12 r13 r14 r15".split()
-KEPT = "rbx", "rbp", "r12", "r13", "r14", "r15"
+CALLEE_SAVED = "rbx", "rbp", "r12", "r13", "r14", "r15"
 ARGUMENTS = "rdi", "rsi", "rdx", "rcx", "r8", "r9"
-STACK, ROOM, CONSTANTS, OBJECTS, OUT = 0x7FFF00000000, 1 << 14, 1 << 32, 1 << 36, ("out", 0)
+STACK, STACK_BYTES, CONSTANTS, OBJECTS, OUT = 0x7FFF00000000, 1 << 14, 1 << 32, 1 << 36, ("out", 0)
 LANES, MOST = {"x": 2, "y": 4, "z": 8}, 200_000
 LINE = re.compile(r"\s+([0-9a-f]+):\t((?:[0-9a-f]{2} )+)\s*\t?(.*)")
 RELOCATION = re.compile(r"\t([0-9a-f]+): R_X86_64_(?:PC32|PLT32)\s+([\w.]+?)([-+]0x[0-9a-f]+)?(?=\t|$)")
@@ -105,7 +105,7 @@ class Processor:
         """Calls a function. Returns rax and rdx."""
         if name not in self.code.symbols:
             raise Refused(f"no function {name}")
-        kept = {r: self.registers[r] for r in KEPT}
+        saved = {r: self.registers[r] for r in CALLEE_SAVED}
         for register, x in zip(ARGUMENTS, arguments):
             self.registers[register] = x if isinstance(x, Term) else constant(x, 64)
         self.registers["rsp"] = constant(STACK, 64)
@@ -115,7 +115,7 @@ class Processor:
             place, count = self.step(place), count + 1
             if count > MOST:
                 raise Refused("no end")
-        if any(self.registers[r] is not x for r, x in kept.items()) or self.number(self.registers["rsp"]) != STACK:
+        if any(self.registers[r] is not x for r, x in saved.items()) or self.number(self.registers["rsp"]) != STACK:
             raise Refused("a register isn't the caller's")
         return self.registers["rax"], self.registers["rdx"]
 
@@ -139,12 +139,12 @@ class Processor:
 
     def store(self, at, x):
         end = at + x.width // 8
-        if not (STACK - ROOM <= at and end <= STACK) and not any(first <= at and end <= last for first, last in self.writable):
+        if not (STACK - STACK_BYTES <= at and end <= STACK) and not any(first <= at and end <= last for first, last in self.writable):
             raise Refused(f"a store at {at:#x}")
         self.put_bytes(at, x)
 
     def number(self, x):
-        if x.kind != "constant":
+        if x.op != "constant":
             raise Refused("a place or a branch by a symbol")
         return x.parts[0]
 
@@ -216,15 +216,15 @@ class Processor:
     def condition(self, name):
         if self.flags is None:
             raise Refused("flags that aren't set")
-        kind, a, b, result = self.flags
+        op, a, b, result = self.flags
         if name in ("e", "ne") and any(result is x for x in self.nonzero):
             return name == "ne"
         if name in ("e", "ne"):
             return (not self.number(result)) == (name == "e")
-        if kind == "step" or kind == "shift":
+        if op == "step" or op == "shift":
             raise Refused("a carry that isn't set")
         below = {"sub": lambda: self.number(a) < self.number(b), "logic": lambda: False,
-                 "add": lambda: self.number(a) + self.number(b) > ones(a.width)}[kind]()
+                 "add": lambda: self.number(a) + self.number(b) > ones(a.width)}[op]()
         if name in ("b", "ae"):
             return below == (name == "b")
         if name in ("a", "be"):
@@ -266,7 +266,7 @@ class Processor:
             copied = [self.load(self.number(source), n)]
         for k, x in enumerate(copied):
             self.store(to + k, x)
-        for r in set(REGISTERS) - {*KEPT, "rsp"}:
+        for r in set(REGISTERS) - {*CALLEE_SAVED, "rsp"}:
             self.registers[r] = variable(f"after {name} {r}", 64)
         self.vectors, self.flags = {}, None
         self.registers["rax"] = constant(to, 64)

@@ -10,7 +10,7 @@ assert instructions                                      # imported because it f
 MESSAGE, SECRET, STATE = OBJECTS, OBJECTS + (1 << 32), OBJECTS + (2 << 32)
 NAMES = {"32": "XXH32", "64": "XXH64", "3-64": "XXH3_64bits", "3-128": "XXH3_128bits"}
 WAYS = {"default": "", "seed": "_withSeed", "secret": "_withSecret", "both": "_withSecretandSeed"}
-KINDS = [("32", "seed"), ("64", "seed"), *((name, way) for name in ("3-64", "3-128") for way in WAYS)]
+ALGORITHMS = [("32", "seed"), ("64", "seed"), *((name, way) for name in ("3-64", "3-128") for way in WAYS)]
 STATE_BYTES = {"32": 64, "64": 128, "3": 1024}            # upper bounds of the sizes of states
 
 
@@ -138,9 +138,9 @@ class Calls:
 
 # ---- the specification and the reference library's results
 
-def value_of(words, message, secret):
+def value_of(fields, message, secret):
     """Returns the definition's value for a line of oracle/vectors.txt."""
-    name, seed, _, n = words[0], words[1], words[2], int(words[3])
+    name, seed, _, n = fields[0], fields[1], fields[2], int(fields[3])
     number = None if seed == "-" else constant(int(seed, 16), 32 if name == "32" else 64)
     if name in ("32", "64"):
         return [Plain(int(name)).hash(message, n, number)]
@@ -149,7 +149,7 @@ def value_of(words, message, secret):
     return Calls.definition(name, "secret" if number is None else "both", n, message, number, of_bytes(secret), len(secret))
 
 
-def drawn(start, length):
+def generated(start, length):
     """Returns the bytes of a test case, as defined in oracle/vectors.c."""
     out, x = bytearray(), start
     for _ in range(length):
@@ -162,12 +162,12 @@ def compare_vectors(each, longest):
     """Compares the definitions with every `each`-th result of the reference library, up to some length."""
     with open(os.path.join(os.path.dirname(os.path.dirname(os.path.abspath(__file__))), "vectors.txt"), encoding="utf-8") as file:
         lines = [line.split() for line in file if line[0] != "#"]
-    asked = [words for words in lines if int(words[3]) <= longest][::each]
-    for words in asked:
+    asked = [fields for fields in lines if int(fields[3]) <= longest][::each]
+    for fields in asked:
         terms.begin(False)
-        size, _, start = words[2].partition(":")
-        secret = None if words[2] == "-" else drawn(int(start, 16), int(size))
-        found = value_of(words, of_bytes(drawn(int(words[4], 16), int(words[3]))), secret)
-        if sum(x.parts[0] << 64 * k for k, x in enumerate(found)) != int(words[5], 16):
-            raise terms.Differs(f"another value of {' '.join(words)}")
+        size, _, start = fields[2].partition(":")
+        secret = None if fields[2] == "-" else generated(int(start, 16), int(size))
+        found = value_of(fields, of_bytes(generated(int(fields[4], 16), int(fields[3]))), secret)
+        if sum(x.parts[0] << 64 * k for k, x in enumerate(found)) != int(fields[5], 16):
+            raise terms.Differs(f"another value of {' '.join(fields)}")
     return len(asked)

@@ -9,11 +9,11 @@ import z3
 
 POINTS, LEVELS, EFFORT = 4, (1, 2, 3, 5), 1_000_000    # levels of terms given to z3, one after another; its limit
 HALF = 32, 64                     # the half of a word of 64 bits
-DRAWN = random.Random(20)
+RNG = random.Random(20)
 
 
 class Term:
-    __slots__ = "kind", "parts", "width", "values", "number"
+    __slots__ = "op", "parts", "width", "values", "number"
 
 
 class Differs(Exception):
@@ -21,13 +21,13 @@ class Differs(Exception):
 
 
 table, by_values, asked = {}, {}, []
-kept = {HALF}                     # whose lower half stays one, since its upper half may join it again, as in a scramble
+uncut = {HALF}                     # whose lower half stays one, since its upper half may join it again, as in a scramble
 
 
 def begin(is_cut):
     """Forgets all terms. If `is_cut`, the lower half of a sum or a product is that of its operands' lower halves."""
-    kept.clear()
-    kept.update(() if is_cut else {HALF})
+    uncut.clear()
+    uncut.update(() if is_cut else {HALF})
     table.clear()
     by_values.clear()
     asked.clear()
@@ -37,29 +37,29 @@ def ones(width):
     return (1 << width) - 1
 
 
-def made(kind, width, values, *parts):
+def new_term(op, width, values, *parts):
     """Returns the one term of a kind with these parts."""
-    key = kind, width, tuple(x.number if isinstance(x, Term) else x for x in parts)
+    key = op, width, tuple(x.number if isinstance(x, Term) else x for x in parts)
     if key not in table:
         x = Term()
-        x.kind, x.parts, x.width, x.values, x.number = kind, parts, width, tuple(values), len(table)
+        x.op, x.parts, x.width, x.values, x.number = op, parts, width, tuple(values), len(table)
         table[key] = x
     return table[key]
 
 
 def constant(value, width):
     value &= ones(width)
-    return made("constant", width, [value] * POINTS, value)
+    return new_term("constant", width, [value] * POINTS, value)
 
 
 def variable(name, width):
     key = "variable", width, (name,)
-    return table[key] if key in table else made("variable", width, [DRAWN.getrandbits(width) for _ in range(POINTS)], name)
+    return table[key] if key in table else new_term("variable", width, [RNG.getrandbits(width) for _ in range(POINTS)], name)
 
 
 def checked(x, width, values):
     if x.width != width or x.values != tuple(v & ones(width) for v in values):
-        raise AssertionError(f"a wrong identity: {x.kind} of {width} bits")
+        raise AssertionError(f"a wrong identity: {x.op} of {width} bits")
     return x
 
 
@@ -77,11 +77,11 @@ def cut(x, first, n):
 def cut_of(x, first, n):
     if n == x.width:
         return x
-    if x.kind == "constant":
+    if x.op == "constant":
         return constant(x.parts[0] >> first, n)
-    if x.kind == "cut":
+    if x.op == "cut":
         return cut_of(x.parts[0], x.parts[1] + first, n)
-    if x.kind == "join":
+    if x.op == "join":
         out, at = [], 0
         for part in x.parts:
             low, high = max(first, at), min(first + n, at + part.width)
@@ -89,23 +89,23 @@ def cut_of(x, first, n):
                 out.append(cut_of(part, low - at, high - low))
             at += part.width
         return join(*out)
-    if x.kind in ("and", "or", "xor"):
-        return bitwise(x.kind, *(cut_of(part, first, n) for part in x.parts))
-    if not first and x.kind == "sum" and (n, x.width) not in kept:
+    if x.op in ("and", "or", "xor"):
+        return bitwise(x.op, *(cut_of(part, first, n) for part in x.parts))
+    if not first and x.op == "sum" and (n, x.width) not in uncut:
         return total(n, [(cut_of(part, 0, n), c) for part, c in zip(x.parts[1::2], x.parts[2::2])], x.parts[0])
-    if not first and x.kind == "product" and (n, x.width) not in kept:
+    if not first and x.op == "product" and (n, x.width) not in uncut:
         return multiply(*(cut_of(part, 0, n) for part in x.parts))
-    return made("cut", n, [v >> first & ones(n) for v in x.values], x, first)
+    return new_term("cut", n, [v >> first & ones(n) for v in x.values], x, first)
 
 
 def join(*parts):
     """Joins words, the lowest first."""
     flat = []
-    for x in (y for part in parts for y in (part.parts if part.kind == "join" else (part,))):
+    for x in (y for part in parts for y in (part.parts if part.op == "join" else (part,))):
         last = flat[-1] if flat else None
-        if last is not None and last.kind == x.kind == "constant":
+        if last is not None and last.op == x.op == "constant":
             flat[-1] = constant(last.parts[0] | x.parts[0] << last.width, last.width + x.width)
-        elif last is not None and last.kind == x.kind == "cut" and last.parts[0] is x.parts[0] \
+        elif last is not None and last.op == x.op == "cut" and last.parts[0] is x.parts[0] \
                 and last.parts[1] + last.width == x.parts[1]:
             flat[-1] = cut_of(x.parts[0], last.parts[1], last.width + x.width)
         else:
@@ -115,7 +115,7 @@ def join(*parts):
     for part in parts:
         values = [v | w << at for v, w in zip(values, part.values)]
         at += part.width
-    return checked(flat[0] if len(flat) == 1 else made("join", width, values, *flat), width, values)
+    return checked(flat[0] if len(flat) == 1 else new_term("join", width, values, *flat), width, values)
 
 
 def widened(x, width):
@@ -144,47 +144,47 @@ def swapped(x):
 NUMBERS = {"and": lambda a, b: a & b, "or": lambda a, b: a | b, "xor": lambda a, b: a ^ b}
 
 
-def bitwise(kind, a, b, *more):
+def bitwise(op, a, b, *more):
     if more:
-        return bitwise(kind, bitwise(kind, a, b), *more)
-    return checked(bitwise_of(kind, a, b), a.width, at_points(NUMBERS[kind], a, b))
+        return bitwise(op, bitwise(op, a, b), *more)
+    return checked(bitwise_of(op, a, b), a.width, at_points(NUMBERS[op], a, b))
 
 
-def bitwise_of(kind, a, b):
-    if a.kind == b.kind == "constant":
-        return constant(NUMBERS[kind](a.parts[0], b.parts[0]), a.width)
-    a, b = sorted((a, b), key=lambda x: (x.kind == "constant", x.number))
-    if b.kind == "constant":
+def bitwise_of(op, a, b):
+    if a.op == b.op == "constant":
+        return constant(NUMBERS[op](a.parts[0], b.parts[0]), a.width)
+    a, b = sorted((a, b), key=lambda x: (x.op == "constant", x.number))
+    if b.op == "constant":
         runs = in_runs(b.parts[0], b.width)
-        if kind == "and" or kind == "or" or len(runs) == 1 and not b.parts[0]:
-            return join(*(of_run(kind, cut(a, at, n), bit, n) for at, n, bit in runs))
-    if a.kind == "join" or b.kind == "join":
+        if op == "and" or op == "or" or len(runs) == 1 and not b.parts[0]:
+            return join(*(of_run(op, cut(a, at, n), bit, n) for at, n, bit in runs))
+    if a.op == "join" or b.op == "join":
         found = beside(a, b)
-        if found and kind != "and":
+        if found and op != "and":
             return found
     if a is b:
-        return constant(0, a.width) if kind == "xor" else a
-    if kind == "xor":
+        return constant(0, a.width) if op == "xor" else a
+    if op == "xor":
         flat = {}
-        for x in (*(a.parts if a.kind == "xor" else [a]), *(b.parts if b.kind == "xor" else [b])):
+        for x in (*(a.parts if a.op == "xor" else [a]), *(b.parts if b.op == "xor" else [b])):
             flat.pop(x.number) if x.number in flat else flat.update({x.number: x})
         parts = sorted(flat.values(), key=lambda x: x.number)
-        number = [x for x in parts if x.kind == "constant"]
-        parts = [x for x in parts if x.kind != "constant"]
+        number = [x for x in parts if x.op == "constant"]
+        parts = [x for x in parts if x.op != "constant"]
         value = 0
         for x in number:
             value ^= x.parts[0]
         parts += [constant(value, a.width)] if value else []
         if len(parts) < 2:
             return parts[0] if parts else constant(0, a.width)
-        return made("xor", a.width, at_points(NUMBERS["xor"], a, b), *parts)
-    return made(kind, a.width, at_points(NUMBERS[kind], a, b), a, b)
+        return new_term("xor", a.width, at_points(NUMBERS["xor"], a, b), *parts)
+    return new_term(op, a.width, at_points(NUMBERS[op], a, b), a, b)
 
 
-def of_run(kind, x, bit, n):
-    if kind == "and":
+def of_run(op, x, bit, n):
+    if op == "and":
         return x if bit else constant(0, n)
-    return (constant(ones(n), n) if kind == "or" else x) if bit else x
+    return (constant(ones(n), n) if op == "or" else x) if bit else x
 
 
 def in_runs(value, width):
@@ -204,7 +204,7 @@ def beside(a, b):
     edges = {0, a.width}
     for x in (a, b):
         at = 0
-        for part in x.parts if x.kind == "join" else (x,):
+        for part in x.parts if x.op == "join" else (x,):
             edges.add(at)
             at += part.width
     edges, out = sorted(edges), []
@@ -235,17 +235,17 @@ def total(width, terms, number=0):
         return constant(number, width)
     if not number and len(parts) == 1 and not parts[0][1] & parts[0][1] - 1:
         return checked(shift_left(parts[0][0], parts[0][1].bit_length() - 1), width, values)
-    return made("sum", width, values, number, *(x for part in parts for x in part))
+    return new_term("sum", width, values, number, *(x for part in parts for x in part))
 
 
 def summands(x):
     """Yields the words of a sum with their factors, and its number with no word."""
-    if x.kind == "constant":
+    if x.op == "constant":
         yield None, x.parts[0]
-    elif x.kind == "sum":
+    elif x.op == "sum":
         yield None, x.parts[0]
         yield from zip(x.parts[1::2], x.parts[2::2])
-    elif x.kind == "join" and len(x.parts) == 2 and x.parts[0] is constant(0, x.parts[0].width):
+    elif x.op == "join" and len(x.parts) == 2 and x.parts[0] is constant(0, x.parts[0].width):
         for y, d in summands(x.parts[1]):      # a word that is shifted: the bits above don't matter
             yield y and widened(y, x.width), d << x.parts[0].width
     else:
@@ -254,7 +254,7 @@ def summands(x):
 
 def united(flat, width):
     """Replaces c * low + (c << 32) * high, of halves of 64 bits, by c times the word of both."""
-    halves = {y: c for y, c in flat.values() if c and width == 64 and y.kind == "join" and cut(y, 32, 32) is constant(0, 32)}
+    halves = {y: c for y, c in flat.values() if c and width == 64 and y.op == "join" and cut(y, 32, 32) is constant(0, 32)}
     for low, c in halves.items():
         high = next((y for y, d in halves.items() if y is not low and d == c << 32 & ones(64) and flat[y.number][1]), None)
         if high and flat[low.number][1]:
@@ -272,11 +272,11 @@ def subtract(a, b):
 
 
 def multiply(a, b):
-    if a.kind == "constant" or b.kind == "constant":
-        a, b = (b, a) if a.kind == "constant" else (a, b)
+    if a.op == "constant" or b.op == "constant":
+        a, b = (b, a) if a.op == "constant" else (a, b)
         return total(a.width, [(a, b.parts[0])])
     a, b = sorted((a, b), key=lambda x: x.number)
-    return made("product", a.width, [v & ones(a.width) for v in at_points(lambda x, y: x * y, a, b)], a, b)
+    return new_term("product", a.width, [v & ones(a.width) for v in at_points(lambda x, y: x * y, a, b)], a, b)
 
 
 def product(a, b):
@@ -289,7 +289,7 @@ def product(a, b):
 
 def representative(x):
     """Returns the first known term that equals this one, as z3 shows, or this one."""
-    if x.kind in ("constant", "variable"):
+    if x.op in ("constant", "variable"):
         return x
     known = by_values.setdefault((x.width, x.values), x)
     return known if known is x or are_equal(x, known) else x
@@ -309,27 +309,27 @@ def are_equal(x, y):
 
 
 def in_z3(x, level, names):
-    if x.kind == "constant":
+    if x.op == "constant":
         return z3.BitVecVal(x.parts[0], x.width)
-    if x.kind == "variable" or not level and x.kind not in ("join", "cut"):
+    if x.op == "variable" or not level and x.op not in ("join", "cut"):
         return names.setdefault(x.number, z3.BitVec(f"x{x.number}", x.width))
-    if x.kind == "cut":
+    if x.op == "cut":
         inner = in_z3(x.parts[0], level, names)
         return z3.Extract(x.parts[1] + x.width - 1, x.parts[1], inner)
-    if x.kind == "join":
+    if x.op == "join":
         return z3.Concat(*(in_z3(part, level, names) for part in reversed(x.parts)))
-    if x.kind == "sum":
+    if x.op == "sum":
         out = z3.BitVecVal(x.parts[0], x.width)
         for part, c in zip(x.parts[1::2], x.parts[2::2]):
             out += in_z3(part, level - 1, names) * z3.BitVecVal(c, x.width)
         return out
     parts = [in_z3(part, level - 1, names) for part in x.parts]
-    if x.kind == "product":       # any function of two words
+    if x.op == "product":       # any function of two words
         word = z3.BitVecSort(x.width)
         return z3.Function(f"product{x.width}", word, word, word)(*parts)
     out = parts[0]
     for part in parts[1:]:
-        out = out & part if x.kind == "and" else out | part if x.kind == "or" else out ^ part
+        out = out & part if x.op == "and" else out | part if x.op == "or" else out ^ part
     return out
 
 

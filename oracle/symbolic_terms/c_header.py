@@ -19,14 +19,14 @@ OF_PLAIN_FORM = "3-64:both", "3-128:secret"
 
 # ---- short inputs
 
-def short_kinds():
+def short_algorithms():
     yield from (("32", "seed"), ("64", "seed"))
     yield from ((name, way) for name in every_length.XXH3 for way in DERIVED)
 
 
-def short(module, kind):
+def short(module, algorithm):
     """Compares every length below the first of the induction, of one kind. Returns the number of values, or raises."""
-    name, _, way = kind.partition(":")
+    name, _, way = algorithm.partition(":")
     requests = comparison.requests(name, way or "seed", None, range(SHORT[name]))
     equal, complaints = comparison.compare({"the header": lambda request: of_reference(request, module)}, requests)
     if complaints:
@@ -60,27 +60,27 @@ def of_calls():
 
 def of_secrets(is_all):
     yield "refused secrets", calls.refused_secrets, "", "scalar"
-    for kind in LONG_SEEDS if is_all else ():
-        yield f"secrets of {kind} bytes from seeds of every length above 240", calls.generated_from_long, kind, "scalar"
+    for case in LONG_SEEDS if is_all else ():
+        yield f"secrets of {case} bytes from seeds of every length above 240", calls.generated_from_long, case, "scalar"
     for form in OF_SHORT:
         yield "derived secrets", calls.derived_secret, "", form
-        for kind in SHORT_SEEDS if is_all else SOME_SHORT_SEEDS:
-            first, last, *_ = kind.split()
-            yield f"secrets of {first} to {last} bytes from seeds of 0 to 240", calls.generated_secrets, kind, form
+        for case in SHORT_SEEDS if is_all else SOME_SHORT_SEEDS:
+            first, last, *_ = case.split()
+            yield f"secrets of {first} to {last} bytes from seeds of 0 to 240", calls.generated_secrets, case, form
 
 
 def of_hashes(is_all):
     for form in FORMS:
-        for name, way in short_kinds():
+        for name, way in short_algorithms():
             if form in (OF_SHORT if name.startswith("3-") else OF_PLAIN):
                 yield f"XXH{name}, {way}: each length below {SHORT[name]}", short, f"{name}:{way}", form
-        for kind in every_length.KINDS:
-            is_in_ci = form == "scalar" or kind not in OF_PLAIN_FORM
-            if (is_all or is_in_ci) and (kind.startswith("3-") or form in OF_PLAIN):
-                title = f"XXH{kind.replace(':', ', ')}: every length from {every_length.shortest(kind)} to 2^64 - 1"
-                yield title, every_length.show, kind, form
-        for kind in ("32", "64") if form in OF_PLAIN else ():
-            yield f"XXH{kind}, streams: any updates, to 2^64 - 1 bytes", plain_streams.show, kind, form
+        for algorithm in every_length.ALGORITHMS:
+            is_in_ci = form == "scalar" or algorithm not in OF_PLAIN_FORM
+            if (is_all or is_in_ci) and (algorithm.startswith("3-") or form in OF_PLAIN):
+                title = f"XXH{algorithm.replace(':', ', ')}: every length from {every_length.shortest(algorithm)} to 2^64 - 1"
+                yield title, every_length.show, algorithm, form
+        for algorithm in ("32", "64") if form in OF_PLAIN else ():
+            yield f"XXH{algorithm}, streams: any updates, to 2^64 - 1 bytes", plain_streams.show, algorithm, form
         for place in xxh3_streams.PLACES:
             if is_all or STREAMS[place] == form:
                 title = f"XXH3, streams with a secret {place} of the state: any updates, to 2^63 - 1 bytes"

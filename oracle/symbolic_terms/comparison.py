@@ -9,15 +9,15 @@ SECRETS = 136, 137, 143, 144, 192, 256
 PLAIN = [("32", "seed", None), ("64", "seed", None)]
 EDGES_FROM, LONGEST = 1101, 10_241
 
-def kinds(secrets):
-    """Returns the kinds of calls: (hash, function, length of the secret)."""
+def algorithms(secrets):
+    """Returns the algorithms: (hash, variant, length of the secret)."""
     of_secret = [(way, n) for way in ("secret", "both") for n in secrets]
     ways = [("default", None), ("seed", None), *of_secret]
     return PLAIN + [(name, *way) for name in ("3-64", "3-128") for way in ways]
 
 
-def title_of(hash_name, kind, secret):
-    return f"XXH{hash_name}, {kind}" + (f" of {secret} bytes" if secret else "")
+def title_of(hash_name, variant, secret):
+    return f"XXH{hash_name}, {variant}" + (f" of {secret} bytes" if secret else "")
 
 
 def edges(secret_length):
@@ -27,9 +27,9 @@ def edges(secret_length):
     return sorted({n for n in [*ends, 2048, 2049, 4096, 4097, LONGEST - 1, LONGEST] if EDGES_FROM <= n <= LONGEST})
 
 
-def requests(hash_name, kind, secret_length, lengths):
+def requests(hash_name, variant, secret_length, lengths):
     for length in lengths:
-        request = Request(hash_name, kind, length, secret_length)
+        request = Request(hash_name, variant, length, secret_length)
         yield from [request, *request.with_seed_0()]
 
 
@@ -55,12 +55,12 @@ def compare(sides, asked):
             nodes.forget()
             texts.clear()
             entries = definition.program().run()
-        key = request.hash_name, request.kind, request.length, request.secret_length, request.fixed_seed
+        key = request.hash_name, request.variant, request.length, request.secret_length, request.fixed_seed
         if key not in texts:          # a stream has the term of the whole message
             texts = {key: request.of_definition(entries)}
-        told = [found for name, ask in sides.items() if (found := difference(request, name, texts[key], ask))]
-        equal += len(sides) - len(told)
-        complaints += told
+        messages = [found for name, ask in sides.items() if (found := difference(request, name, texts[key], ask))]
+        equal += len(sides) - len(messages)
+        complaints += messages
     return equal, complaints
 
 

@@ -14,14 +14,14 @@ def cuts_of(length):
     """Returns the cuts for streams of a length: none, one or two of the edges, counted from the start and from the
     end."""
     ends = sorted({end for end in [*CUTS, *(length - end for end in CUTS), 0, length] if 0 <= end <= length})
-    draw = random.Random(length)
-    pairs = [sorted(draw.sample(ends, 2)) for _ in range(PAIRS)] if len(ends) > 2 else []
+    rng = random.Random(length)
+    pairs = [sorted(rng.sample(ends, 2)) for _ in range(PAIRS)] if len(ends) > 2 else []
     return [[], *([end] for end in ends), *pairs]
 
 
-def streams(hash_name, kind, secret_length, lengths):
+def streams(hash_name, variant, secret_length, lengths):
     """Yields the requests of streams of some lengths, with all their cuts."""
     for length in lengths:
         for cuts in cuts_of(length):
-            request = Request(hash_name, kind, length, secret_length, cuts=cuts)
+            request = Request(hash_name, variant, length, secret_length, cuts=cuts)
             yield from [request, *request.with_seed_0()]

@@ -4,8 +4,8 @@ This module extends antt.py with subtraction of symbolic numbers, messages as li
 of calls in a recursion."""
 import functools
 
-import antt
-import specs
+from oracle import antt
+from oracle import specs
 
 from . import operations
 from .nodes import WrongRule, is_same, memo
@@ -50,7 +50,7 @@ def length(xs):
     return xs.length() if isinstance(xs, Bytes) else len(xs)
 
 
-words = memo()           # (symbol, first byte, bytes) -> word
+part_terms = memo()           # (symbol, first byte, bytes) -> word
 compared = set()         # (bits, bytes) of words already compared with antt.py's result from single bytes
 
 
@@ -61,13 +61,13 @@ def from_le_bytes(bits, xs):
     n = min(xs.length(), bits // 8)
     whole, first = xs.source.window(xs.first, n)
     key = whole.number, first, n
-    if key not in words:
-        words[key] = operations.bits(whole, 8 * first, 8 * n)
+    if key not in part_terms:
+        part_terms[key] = operations.bits(whole, 8 * first, 8 * n)
     if (bits, n) not in compared:
         compared.add((bits, n))
-        if not is_same(words[key], word_of_bytes(bits, Bytes(xs.source, xs.first, plus(xs.first, n)))):
+        if not is_same(part_terms[key], word_of_bytes(bits, Bytes(xs.source, xs.first, plus(xs.first, n)))):
             raise WrongRule(f"a word of {n} bytes")
-    return words[key]
+    return part_terms[key]
 
 
 def subtract(a, b):
@@ -94,10 +94,10 @@ class Suppositions:
     """Calls with a polynomial argument, and the values assumed for them."""
 
     def __init__(self):
-        self.values, self.next, self.kept, self.depth = {}, [], [], 0
+        self.values, self.next, self.alive, self.depth = {}, [], [], 0
 
     def clear(self):
-        for known in (self.values, self.next, self.kept):
+        for known in (self.values, self.next, self.alive):
             known.clear()
 
     def suppose(self, call, values):
@@ -137,7 +137,7 @@ class Suppositions:
             return x
         if isinstance(x, Poly):
             return "polynomial", x.key()
-        self.kept.append(x)   # keeps the object alive so that its id stays unique
+        self.alive.append(x)   # keeps the object alive so that its id stays unique
         if isinstance(x, antt.Function):
             code = getattr(x.body, "__code__", None)
             cells = [cell.cell_contents for cell in getattr(x.body, "__closure__", None) or ()]
@@ -180,12 +180,12 @@ def read(crates=(), entries=()):
 program = functools.cache(read)      # the same, read once
 
 
-def value(entries, hash_name, kind, seed, secret, message):
-    """Returns the definition's value, by the rule of table.Case.ask: `kind` is seed, default, secret or both."""
+def value(entries, hash_name, variant, seed, secret, message):
+    """Returns the definition's value, by the rule of table.Case.ask: `variant` is seed, default, secret or both."""
     entry = entries[specs.HASHES[hash_name]]
     if hash_name in ("32", "64"):
         return entry(seed, message)
-    if kind == "secret":
+    if variant == "secret":
         return entry(0, secret, message)
-    own = secret if kind == "both" else entries["derived_secret"](seed)
+    own = secret if variant == "both" else entries["derived_secret"](seed)
     return entry(seed, entries["effective_secret"](own, message), message)

@@ -19,48 +19,48 @@ DEFAULT_SECRET, DEFAULT_STRIPES = 192, 16     # its bytes, and the stripes of a 
 WAYS = "default", "seed", "seed 0", "secret", "both"
 OWN_SECRET = "secret", "both"
 XXH3 = "3-64", "3-128"
-KINDS = ["32", "64"] + [f"{name}:{way}" for name in XXH3 for way in WAYS]
+ALGORITHMS = ["32", "64"] + [f"{name}:{way}" for name in XXH3 for way in WAYS]
 
 
-def shortest(kind):
+def shortest(algorithm):
     """Returns the shortest length that the induction proves; shorter ones are compared one by one."""
-    return {"32": 16, "64": 32}.get(kind, 0 if kind.endswith(OWN_SECRET) else 241)
+    return {"32": 16, "64": 32}.get(algorithm, 0 if algorithm.endswith(OWN_SECRET) else 241)
 
 
 class Proof:
     """Proves one-shots of a module by induction. Keeps a report on the loops, and the number of cases."""
 
     def __init__(self, module, program=None):
-        self.module, self.names, self.told, self.cases = module, names_of(module), [], 0
+        self.module, self.names, self.messages, self.cases = module, names_of(module), [], 0
         nodes.forget()
         suppositions.clear()
         self.texts = (program or definition.program()).run(traced=suppositions)
 
-    def prepare(self, said, memories=()):
+    def prepare(self, describers, memories=()):
         """Prepares a run of the reference: the proofs of its loops, and the live memories."""
         self.module.reset()
-        self.module.loops = Loops(said, self.told)
+        self.module.loops = Loops(describers, self.messages)
         self.module.live[:] = [*self.module.globals.values(), *memories]
 
-    def words_after(self, k, after, count, width):
+    def symbols_after(self, k, after, count, width):
         """Returns the definition's words after(k), as symbols that are assumed to be these if k isn't 0."""
         if is_same_number(k, 0):
             return [after(j) for j in range(count)]
-        words = [symbol(self.module.fresh("accumulator"), width) for _ in range(count)]
-        suppositions.suppose(after, words)
-        return words
+        symbols = [symbol(self.module.fresh("accumulator"), width) for _ in range(count)]
+        suppositions.suppose(after, symbols)
+        return symbols
 
     def call_keeping(self, what, memory, name, *arguments):
         """Returns the value of a call that must not change a state."""
-        kept = dict(memory.cells)
+        before = dict(memory.cells)
         value = self.module.call(name, [(memory, 0), *arguments])
-        if kept != memory.cells:
+        if before != memory.cells:
             raise NotShown(f"{what} changes the state")
         return value
 
     def lines(self):
         """Returns the report on the loops, without repeated lines."""
-        return list(dict.fromkeys(self.told))
+        return list(dict.fromkeys(self.messages))
 
     # ---- XXH32 and XXH64
 
@@ -74,9 +74,9 @@ class Proof:
         with given(minus(turns, 1), at_most(n, LONGEST)):
             source = Input("m", n)
             message = Bytes(source, 0, n)
-            say = plain_loop(self.names, f"XXH{width} of {n} bytes", self.texts[f"Xxh{width}.accumulator"], seed,
-                             message, minus(turns, 1), width)
-            self.prepare({name.format(width): say for name in self.names.plain_loops})
+            describe = plain_loop(self.names, f"XXH{width} of {n} bytes", self.texts[f"Xxh{width}.accumulator"], seed,
+                                  message, minus(turns, 1), width)
+            self.prepare({name.format(width): describe for name in self.names.plain_loops})
             ours = self.module.call(f"@once_{width}_seed", [(source, 0), n, seed])
             self.expect(f"XXH{width} of {n} bytes", ours, self.texts[f"xxh{width}"](seed, message))
 
@@ -117,8 +117,8 @@ class Proof:
         with given(at_most(n, LONGEST), minus(n, 241), at_most(J, minus(q, 1)), at_most(t, 63), *of_secret):
             message = Input("m", n)
             listed = Bytes(message, 0, n)
-            said = long_loops(self.names, self.texts["Long.accumulator_after"], q, B, J, secret, listed)
-            ours = self.call(hash_name, way, [(message, 0), n, (source, 0), source.length], seed, said)
+            describers = long_loops(self.names, self.texts["Long.accumulator_after"], q, B, J, secret, listed)
+            ours = self.call(hash_name, way, [(message, 0), n, (source, 0), source.length], seed, describers)
             self.expect_internal(hash_name, message, n, (source, 0), source.length, ours)
             theirs = definition.value(self.texts, hash_name, way, seed, secret, listed)
             self.expect(f"XXH{hash_name}, {way}, of {n} bytes", ours, theirs)
@@ -142,10 +142,10 @@ class Proof:
         if not all(agree(a, b) for a, b in zip(arguments[:4], asked, strict=True)) or not nodes.is_same(answer, value):
             raise NotShown(f"XXH{hash_name}: another call of the function for long inputs")
 
-    def call(self, hash_name, way, arguments, seed, said):
+    def call(self, hash_name, way, arguments, seed, describers):
         """Returns a one-shot of the reference. Without a custom secret, a long input's hash is a symbol."""
         out = Memory("out", 16)
-        self.prepare(said, [out])
+        self.prepare(describers, [out])
         self.watch(self.names.long.format(hash_name[2:]), runs=way in OWN_SECRET)
         if isinstance(seed, Node):
             self.module.suppose_different(seed, 0)
@@ -186,12 +186,12 @@ def plain_loop(names, name, accumulator, seed, message, last, width, first=0, ce
     def after(k):
         return lambda j: accumulator(seed, message, j, plus(first, k))
 
-    def say(function, registers):
+    def describe(function, registers):
         array, variables = registers.get(names.plain_array), [registers.get(x) for x in names.plain_variables]
         own = cells or ([(array[0], array[1] + width // 8 * j) for j in range(4)] if array else variables)
         return Loop(name, last, own, width, lambda k, values: suppositions.suppose(after(k), values),
                     lambda k: [after(k)(j) for j in range(4)])
-    return say
+    return describe
 
 
 def xxh3_loop(after, name, last, cells, place):
@@ -223,11 +223,11 @@ def long_loops(names, accumulator_after, q, B, J, secret, message):
     return {names.blocks: blocks, names.stripes: stripes}
 
 
-def show(module, kind, program=None):
-    """Proves one kind for every length from shortest(kind) on. Returns the Proof, or raises. `program` is the
+def show(module, algorithm, program=None):
+    """Proves an algorithm for every length from shortest(algorithm) on. Returns the Proof, or raises. `program` is the
     definition, if it is changed."""
     proof = Proof(module, program)
-    name, _, way = kind.partition(":")
+    name, _, way = algorithm.partition(":")
     if way:
         proof.xxh3(name, way)
     else:

@@ -41,14 +41,14 @@ def expect_bytes(what, memory, theirs):
 
 def call_keeping(module, memory, name, *arguments):
     """Returns the value of a call that must not change a memory."""
-    kept = dict(memory.cells)
+    before = dict(memory.cells)
     value = call(module, name, *arguments)
-    if kept != memory.cells:
+    if before != memory.cells:
         raise NotShown(f"{name} changes {memory.name}")
     return value
 
 
-def words_in(memory_name, size, word=8):
+def symbols_in(memory_name, size, word=8):
     """Returns a memory whose words are symbols."""
     return Memory(memory_name, size, [(k, word, symbol(f"{memory_name} {k}", 8 * word)) for k in range(0, size, word)])
 
@@ -59,19 +59,19 @@ def canonical_forms(module, name):
     """The conversion of a hash to bytes, the highest first, and back."""
     module.reset()
     width, size = CANONICAL[name], CANONICAL[name] // 8
-    words = [symbol(f"hash {k} of {width}", min(width, 64)) for k in range(max(1, width // 64))]
+    parts = [symbol(f"hash {k} of {width}", min(width, 64)) for k in range(max(1, width // 64))]
     memory, source = Memory("canonical", size), Input("canonical", size)
-    call(module, f"{name}_canonicalFromHash", (memory, 0), *words)
+    call(module, f"{name}_canonicalFromHash", (memory, 0), *parts)
     back = call(module, f"{name}_hashFromCanonical", (source, 0))
     back = back if width == 128 else (back,)
     for k in range(size):
         word, first = divmod(8 * (size - 1 - k), 64)
-        expect(f"byte {k} of the form of {name}", memory.load(k, 1), bits(words[word], first, 8))
+        expect(f"byte {k} of the form of {name}", memory.load(k, 1), bits(parts[word], first, 8))
         expect(f"byte {k} of a hash of {name}", bits(back[word], first, 8), source.load(k, 1))
     return 2
 
 
-def equal_hashes(module, _kind):
+def equal_hashes(module, _case):
     """Equal hashes, and hashes that differ in the low word, in the high word, or in both."""
     one, others = [symbol(f"word {k}", 64) for k in (0, 1)], [symbol(f"other {k}", 64) for k in (0, 1)]
     for differs in itertools.product((False, True), repeat=2):
@@ -90,26 +90,26 @@ def in_order(name, sign):
     return {1: (above, word), 0: (word, word), -1: (word, above)}[sign]
 
 
-def order_of_hashes(module, _kind):
+def order_of_hashes(module, _case):
     """Each word of the first hash above, equal to, and below the second hash's word."""
     values = {1: 1, 0: 0, -1: (1 << 32) - 1}
     for high, low in itertools.product(values, values):
         module.reset()
-        words = in_order("low", low), in_order("high", high)
-        with given(*(at_most(word, LIMIT) for pair in words for word in pair)):
-            first, second = (Memory(f"hash {k}", 16, [(0, 8, words[0][k]), (8, 8, words[1][k])]) for k in (0, 1))
+        pairs = in_order("low", low), in_order("high", high)
+        with given(*(at_most(word, LIMIT) for pair in pairs for word in pair)):
+            first, second = (Memory(f"hash {k}", 16, [(0, 8, pairs[0][k]), (8, 8, pairs[1][k])]) for k in (0, 1))
             expect("XXH128_cmp", call(module, "XXH128_cmp", (first, 0), (second, 0)), values[high or low])
     return len(values) ** 2
 
 
 # ---- the version, another name, copies
 
-def version(module, _kind):
+def version(module, _case):
     expect("XXH_versionNumber", call(module, "XXH_versionNumber"), VERSION)
     return 1
 
 
-def another_name(module, _kind):
+def another_name(module, _case):
     """XXH128 is one call of XXH3_128bits_withSeed with its arguments, for an input of any length."""
     module.reset()
     n, seed, value = variable("n"), seed_symbol("3-128"), (symbol("low", 64), symbol("high", 64))
@@ -124,7 +124,7 @@ def another_name(module, _kind):
 def copies(module, algorithm):
     """A copy has all bytes of its original, which stays as it was."""
     module.reset()
-    original, copy = words_in("original", ALGORITHMS[algorithm]), Memory("copy", ALGORITHMS[algorithm])
+    original, copy = symbols_in("original", ALGORITHMS[algorithm]), Memory("copy", ALGORITHMS[algorithm])
     call_keeping(module, original, f"{algorithm}_copyState", (copy, 0), (original, 0))
     expect_bytes("a copy", copy, [original.load(k, 1) for k in range(original.length)])
     return 1
@@ -187,7 +187,7 @@ def freed_null(module, algorithm):
 
 # ---- secrets
 
-def derived_secret(module, _kind):
+def derived_secret(module, _case):
     """The 192 bytes of the secret derived from a seed."""
     entries = definition.program().run()
     for seed in (seed_symbol("3-64"), 0):
@@ -206,10 +206,10 @@ def generated(module, entries, size, seed, is_null=False):
     expect_bytes(f"a secret of {size} bytes from {seed.end}", memory, entries["generated_secret"](seed, size))
 
 
-def generated_secrets(module, kind):
-    """Secrets of some sizes, generated from null and from seeds of 0 to 240 bytes. `kind` has the first and the last
+def generated_secrets(module, case):
+    """Secrets of some sizes, generated from null and from seeds of 0 to 240 bytes. `case` has the first and the last
     size, the first length and the step between lengths."""
-    first, last, shortest, step = map(int, kind.split())
+    first, last, shortest, step = map(int, case.split())
     program, count = definition.program(("twox_c",), ("generated_secret",)), 0
     entries = program.run()
     for size in range(first, last + 1):
@@ -223,10 +223,10 @@ def generated_secrets(module, kind):
     return count
 
 
-def generated_from_long(module, kind):
-    """Secrets of the sizes of `kind`, up to 241 bytes, generated from seeds of every length from 241 on: by induction
+def generated_from_long(module, case):
+    """Secrets of the sizes of `case`, up to 241 bytes, generated from seeds of every length from 241 on: by induction
     over the loops of their hash."""
-    sizes, blocks, rest = [*map(int, kind.split())], variable("B"), variable("t")
+    sizes, blocks, rest = [*map(int, case.split())], variable("B"), variable("t")
     proof = Proof(module, definition.program(("twox_c",), ("generated_secret",)))
     default, after = proof.texts["default_secret"](), proof.texts["Long.accumulator_after"]
     for size, stripes in itertools.product(sizes, range(DEFAULT_STRIPES)):
@@ -241,7 +241,7 @@ def generated_from_long(module, kind):
 
 # ---- refusals
 
-def refused_secrets(module, _kind):
+def refused_secrets(module, _case):
     """Generated secrets of each size that is too short, into null, and from null as more than 0 bytes: nothing is
     written."""
     size, length = variable("size"), variable("length")
@@ -259,7 +259,7 @@ def refused_secrets(module, _kind):
 
 def refused_resets(module, width):
     """Resets of null, with null as a secret, and with a secret of each length that is too short: the state stays."""
-    size, seed, state = variable("size"), seed_symbol("3-64"), words_in("state", ALGORITHMS["XXH3"])
+    size, seed, state = variable("size"), seed_symbol("3-64"), symbols_in("state", ALGORITHMS["XXH3"])
     large, place = plus(size, SHORTEST), (state, 0)
     secret = Input("s", large), 0
     cases = [(f"{width}bits_reset", 0), (f"{width}bits_reset_withSeed", 0, seed)]
@@ -296,7 +296,7 @@ def refused_one_shots(module, width):
     return len(cases)
 
 
-def null_inputs(module, _kind):
+def null_inputs(module, _case):
     """One-shots of no bytes at null: the value of no bytes elsewhere."""
     seed, secret = seed_symbol("3-64"), ((Input("s", SHORTEST), 0), SHORTEST)
     cases = [("XXH32", seed_symbol("32")), ("XXH64", seed)]

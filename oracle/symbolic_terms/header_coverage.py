@@ -18,32 +18,32 @@ def public_functions(lines):
     return {name for name in names if not name.startswith(OWN)}
 
 
-def compared(show, kind):
+def compared(show, case):
     """Returns the public functions whose values a proof compares."""
-    name, _, way = kind.partition(":")
+    name, _, way = case.partition(":")
     if show is xxh3_streams.show:
-        ways = *(f"reset{reset}" for reset in RESETS[kind]), "update", "digest"
+        ways = *(f"reset{reset}" for reset in RESETS[case]), "update", "digest"
         names = [f"XXH3_{width}bits_{way}" for width in xxh3_streams.WIDTHS for way in ways]
     elif show is plain_streams.show:
-        names = [f"XXH{kind}_{way}" for way in ("reset", "update", "digest")]
+        names = [f"XXH{case}_{way}" for way in ("reset", "update", "digest")]
     elif show in header_calls.CHECKS:
-        names = header_calls.COMPARED.get(show, "").format(kind).split()
+        names = header_calls.COMPARED.get(show, "").format(case).split()
     else:
         names = [f"XXH3_{name[2:]}bits{WAYS[way]}" if name in every_length.XXH3 else f"XXH{name}"]
     return {PREFIX + name for name in names}
 
 
-def proved(show, kind, module):
+def proved(show, case, module):
     """Runs a proof. Returns the counts, and messages on functions that it should have called."""
-    found = show(module, kind)
-    left = [name for name in sorted(compared(show, kind)) if f"@{name}" not in module.called]
+    found = show(module, case)
+    left = [name for name in sorted(compared(show, case)) if f"@{name}" not in module.called]
     counted = f"{found} values" if isinstance(found, int) else f"{found.cases} cases"
     return counted, [f"it doesn't call {name}" for name in left]
 
 
 def without_proof(proofs, names):
     """Returns the names of public functions that no proof compares."""
-    return names - {name for _, show, kind, _ in proofs for name in compared(show, kind)}
+    return names - {name for _, show, case, _ in proofs for name in compared(show, case)}
 
 
 def all_compared(proofs, module):

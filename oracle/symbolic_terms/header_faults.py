@@ -171,10 +171,10 @@ def judge(faults, headers, _module):
     with open(os.path.join(headers, "xxhash.h"), encoding="utf-8") as file:
         header = file.read()
     bad = []
-    for function, old, new, show, kind, form, is_equal in faults:
-        refused = outcome(changed(header, function, old, new), show, kind, form)
+    for function, old, new, show, case, form, is_equal in faults:
+        refused = outcome(changed(header, function, old, new), show, case, form)
         if (refused is None) != is_equal:
-            change = f"{kind}, {form}, {function} {old}  ->  {new}{' (equal)' if is_equal else ''}"
+            change = f"{case}, {form}, {function} {old}  ->  {new}{' (equal)' if is_equal else ''}"
             bad.append(f"{change}: {refused or 'shown'}")
     return f"{len(faults)} changes", bad
 

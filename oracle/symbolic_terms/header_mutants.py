@@ -82,25 +82,25 @@ def changed(header, function, old, new):
     return header[:at] + new + header[at + len(old):]
 
 
-def outcome(header, show, kind, vector="scalar"):
+def outcome(header, show, case, vector="scalar"):
     """Returns the refusal of a header, or None if the kind is proved."""
-    with tempfile.TemporaryDirectory(prefix="symbolic-") as room:
-        with open(os.path.join(room, "xxhash.h"), "w", encoding="utf-8") as file:
+    with tempfile.TemporaryDirectory(prefix="symbolic-") as workdir:
+        with open(os.path.join(workdir, "xxhash.h"), "w", encoding="utf-8") as file:
             file.write(header)
-        wrong = module(room, vector)
+        wrong = module(workdir, vector)
     try:
-        show(wrong, kind)
+        show(wrong, case)
     except REFUSALS as error:
         return f"{type(error).__name__}: {error}"
     return None
 
 
-def tell(changes):
+def report(changes):
     """Yields for each change and kind: whether it has the expected result, and a line."""
     with open(os.path.join(HEADERS, "xxhash.h"), encoding="utf-8") as file:
         header = file.read()
-    for show, kinds, function, old, new, is_equal in changes:
-        for kind in kinds:
-            refused = outcome(changed(header, function, old, new), show, kind)
-            told = f"{kind}, {function} {old}  ->  {new}{' (equal)' if is_equal else ''}: {refused or 'shown'}"
-            yield (refused is None) == is_equal, told
+    for show, cases, function, old, new, is_equal in changes:
+        for case in cases:
+            refused = outcome(changed(header, function, old, new), show, case)
+            message = f"{case}, {function} {old}  ->  {new}{' (equal)' if is_equal else ''}: {refused or 'shown'}"
+            yield (refused is None) == is_equal, message

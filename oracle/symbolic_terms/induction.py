@@ -1,6 +1,6 @@
 """Proves loops of any number of iterations (turns) by induction, on any machine.
 
-At the loop head after k turns, the cells of `words` hold words of the definition, those of `places` have advanced k
+At the loop head after k turns, the cells of `indices` hold words of the definition, those of `places` have advanced k
 steps, those of `counts` one step per turn in the block, those of `unset` may hold anything, and all others are
 unchanged. First turns determine these sets. Then a turn from any k is proved to lead to the same for k + 1. A cell that
 violates this becomes unset, if it may, and the turn runs again.
@@ -42,7 +42,7 @@ def moved(x, step, k):
 
 class Induction:
     """A loop, given by the cells at its head. A subclass has `name`; `state()`, the current cells; `put(cells)`, which
-    sets them; `turn()`, from the head to the head; `new_name(prefix)`; `said(k)`, the definition's words after k turns;
+    sets them; `turn()`, from the head to the head; `new_name(prefix)`; `defined(k)`, the definition's words after k turns;
     `supposed(k)`, fresh symbols assumed equal to these; and `may_hold_anything(cell)`."""
 
     name_of = staticmethod(str)
@@ -53,14 +53,14 @@ class Induction:
 
     def forget(self):
         """Forgets the guesses."""
-        self.words, self.places, self.counts, self.unset = {}, {}, {}, set()
+        self.indices, self.places, self.counts, self.unset = {}, {}, {}, set()
 
-    def expected(self, k, words, j=0):
+    def expected(self, k, values, j=0):
         """Returns the cells after k turns, j of them in a block, with these words; without unset cells."""
         out = dict(self.start)
         for turns, cells in ((k, self.places), (j, self.counts)):
             out.update({cell: moved(x, step, turns) for cell, (x, step) in cells.items()})
-        out.update({cell: self.as_stored(cell, words[i]) for cell, i in self.words.items()})
+        out.update({cell: self.as_stored(cell, values[i]) for cell, i in self.indices.items()})
         for cell in self.unset:
             out.pop(cell, None)
         return out
@@ -70,8 +70,8 @@ class Induction:
         old = self.start[cell]
         return (old[0], x) if isinstance(old, tuple) else x
 
-    def enter(self, k, words=(), j=0):
-        self.put(self.expected(k, words, j))
+    def enter(self, k, values=(), j=0):
+        self.put(self.expected(k, values, j))
 
     def show_below(self, last):
         """Proves a turn from any k below `last`."""
@@ -93,7 +93,7 @@ class Induction:
 
     def compare(self, k, j=0):
         """Checks that the cells are the expected ones after k turns."""
-        expected, now = self.expected(k, self.said(k), j), self.state()
+        expected, now = self.expected(k, self.defined(k), j), self.state()
         for cell in {*expected, *now} - self.unset:
             if not same(now.get(cell), expected.get(cell)):
                 self.let_go(cell, now.get(cell), expected.get(cell))
@@ -101,7 +101,7 @@ class Induction:
     def let_go(self, cell, found, expected):
         if not self.may_hold_anything(cell):
             raise NotShown(f"{self.name}: {self.name_of(cell)} is {found} and not {expected}")
-        for known in (self.words, self.places, self.counts):
+        for known in (self.indices, self.places, self.counts):
             known.pop(cell, None)
         self.unset.add(cell)
 
@@ -113,7 +113,7 @@ class Induction:
 
     def guess_places(self, cells, once, twice=None):
         """Guesses which of these cells advance, by their values after one turn, or after one and two."""
-        for cell in cells - set(self.words):
+        for cell in cells - set(self.indices):
             step = step_between(self.start.get(cell), once.get(cell))
             if step is None or twice is not None and not same(twice.get(cell), moved(once[cell], step, 1)):
                 self.let_go(cell, once.get(cell), self.start.get(cell))

@@ -6,7 +6,7 @@ import re
 from dataclasses import dataclass
 
 from .refusals import Unsupported
-from .words import signed
+from .modular import signed
 
 TOKEN = re.compile(r'c"[^"]*"|"[^"]*"|[%@][-\w.$]+|-?\d+|[\w.]+|\.\.\.|[][(){}<>,*=]|![\w.]*|#\d+')
 ATTRIBUTES = {"noundef", "noalias", "nocapture", "readonly", "writeonly", "immarg", "inbounds", "nuw", "nsw", "exact",
@@ -83,12 +83,12 @@ class Reader:
     """Reads one line."""
 
     def __init__(self, module, line):
-        self.module, self.words, self.at = module, TOKEN.findall(line), 0
+        self.module, self.tokens, self.at = module, TOKEN.findall(line), 0
 
     def peek(self):
-        while self.at < len(self.words) and self.words[self.at] in ATTRIBUTES:
+        while self.at < len(self.tokens) and self.tokens[self.at] in ATTRIBUTES:
             self.at += 1
-        return self.words[self.at] if self.at < len(self.words) else None
+        return self.tokens[self.at] if self.at < len(self.tokens) else None
 
     def next(self):
         word = self.peek()
@@ -103,7 +103,7 @@ class Reader:
 
     def expect(self, word):
         if self.next() != word:
-            raise Unsupported(f"no {word} in {' '.join(self.words)}")
+            raise Unsupported(f"no {word} in {' '.join(self.tokens)}")
 
     # ---- types
 
@@ -140,7 +140,7 @@ class Reader:
             return Vector(count, element.bits)
         if word in ("{", "<"):
             return self.struct(word == "<")
-        raise Unsupported(f"the type {word} in {' '.join(self.words)}")
+        raise Unsupported(f"the type {word} in {' '.join(self.tokens)}")
 
     def counted(self, end):
         """Parses `8 x i64` and the closing bracket."""
@@ -195,13 +195,13 @@ class Reader:
             self.type()
             self.expect(")")
             return inner
-        raise Unsupported(f"the operand {word} in {' '.join(self.words)}")
+        raise Unsupported(f"the operand {word} in {' '.join(self.tokens)}")
 
     def empty_assembly(self):
         """Reads inline assembly without instructions, the compiler's guard. It returns its argument."""
         self.take("sideeffect")
         if self.peek() != '""':
-            raise Unsupported(" ".join(self.words))
+            raise Unsupported(" ".join(self.tokens))
         while self.peek() != "(":
             self.next()
         return Constant(FunctionName(NOTHING))
@@ -284,7 +284,7 @@ PATTERNS = {
 def instruction(module, line):
     """Returns an instruction: (target or None, operation, parts)."""
     reader, target = Reader(module, line), None
-    if reader.words[1:2] == ["="]:
+    if reader.tokens[1:2] == ["="]:
         target = reader.next()
         reader.next()
     word = reader.next()
@@ -300,14 +300,14 @@ def instruction(module, line):
 
 def read(reader, pattern):
     """Returns the parts of an instruction, as a pattern lists them."""
-    out, kinds = [], {"type": reader.type, "word": reader.next, "rest": reader.rest, "number": lambda: int(reader.next())}
+    out, readers = [], {"type": reader.type, "word": reader.next, "rest": reader.rest, "number": lambda: int(reader.next())}
     for item in pattern.split():
         if item in (",", "to"):
             reader.expect(item)
         elif item == "typed":
             out += reader.typed()
         else:
-            out.append(reader.operand(out[-2]) if item == "operand" else kinds[item]())
+            out.append(reader.operand(out[-2]) if item == "operand" else readers[item]())
     return tuple(out)
 
 
@@ -336,12 +336,12 @@ def read_call(reader, _):
 
 def read_alloca(reader, target):
     t = reader.type()
-    return target, t.size(), alignment_said(reader)
+    return target, t.size(), alignment_of(reader)
 
 
-def alignment_said(reader):
+def alignment_of(reader):
     """Returns the number after `align`, or 1."""
-    rest = reader.words[reader.at:]
+    rest = reader.tokens[reader.at:]
     return int(rest[rest.index("align") + 1]) if "align" in rest else 1
 
 

@@ -66,23 +66,23 @@ def blocks_of_loop(after, head, back):
 
 
 class Loops:
-    """Proves each loop that control reaches. `said` maps the prefix of a function's name to a function of the module's
+    """Proves each loop that control reaches. `describers` maps the prefix of a function's name to a function of the module's
     function and the registers. That returns a Loop, or None if the number of iterations is concrete."""
 
-    def __init__(self, said, told):
-        self.said, self.told, self.running = said, told, {}
+    def __init__(self, describers, messages):
+        self.describers, self.messages, self.running = describers, messages, {}
 
     def pass_by(self, function, registers, before, block):
         """Returns (before, block) after the loop, or unchanged if the loop isn't proved."""
-        say = next((say for name, say in self.said.items() if function.name.startswith(name)), None)
-        if say is None or block not in loops_of(function):
+        describe = next((describe for name, describe in self.describers.items() if function.name.startswith(name)), None)
+        if describe is None or block not in loops_of(function):
             return before, block
         key = function.name, block
         around = self.running.get(key)
         if around:
             loop = around.then if around.is_leaving else None
         else:
-            loop = say(function, registers)
+            loop = describe(function, registers)
         if loop is None or is_same_number(loop.last, 0):   # runs iteration by iteration
             return before, block
         self.running[key] = loop
@@ -100,7 +100,7 @@ class Proof(Induction):
         self.before, self.head, self.body = before, head, loops_of(function)[head]
         self.name, self.new_name, self.is_guessing = loop.name, function.module.fresh, False
         inside = {target for block in self.body for target, *_ in function.blocks[block]}
-        self.kept = {name: x for name, x in registers.items() if name not in inside}
+        self.unchanged = {name: x for name, x in registers.items() if name not in inside}
         super().__init__(self.state())
 
     def state(self):
@@ -112,14 +112,14 @@ class Proof(Induction):
         for (memory, at), cell in cells.items():
             memory.cells[at] = cell
         self.registers.clear()
-        self.registers.update(self.kept)
+        self.registers.update(self.unchanged)
 
     def behind(self):
         """Proves the loop. Returns (before, block) after it, with the registers and memories at that point."""
         loop = self.loop
         if not is_natural(loop.last):
             raise NotShown(f"{loop.name}: no number of turns")
-        self.words = {cell: i for i, cell in enumerate(loop.cells)}
+        self.indices = {cell: i for i, cell in enumerate(loop.cells)}
         self.start.update(self.accumulators())
         self.guess()
         self.show_below(loop.last)
@@ -130,15 +130,15 @@ class Proof(Induction):
             raise NotShown(f"{loop.name}: the loop isn't left")
         places = sorted(f"{memory.name[1:]} = {shown(moved(value, step, variable('k'))[1])}"
                         for (memory, _), (value, step) in self.places.items())
-        self.loops.told.append(f"{loop.name}: k = 0 .. {loop.last}, {', '.join(places)}")
+        self.loops.messages.append(f"{loop.name}: k = 0 .. {loop.last}, {', '.join(places)}")
         return answer
 
     def accumulators(self):
         """Yields the accumulators' cells at the start. They must hold the definition's values."""
-        size, said = self.loop.width // 8, self.said(0)
+        size, defined = self.loop.width // 8, self.defined(0)
         for i, (memory, at) in enumerate(self.loop.cells):
             x = memory.load(at, size)
-            if not is_same(x, said[i]):
+            if not is_same(x, defined[i]):
                 raise NotShown(f"{self.loop.name} at the start: accumulator {i} is another term")
             yield (memory, at), (size, x)
 
@@ -146,7 +146,7 @@ class Proof(Induction):
         """Guesses from a first iteration which cells advance, and which are written before they are read."""
         self.is_guessing = True
         with given(minus(self.loop.last, 1)):
-            self.enter(0, self.said(0))
+            self.enter(0, self.defined(0))
             self.turn()
         now = self.state()
         self.guess_places(self.changed(now), now)
@@ -155,7 +155,7 @@ class Proof(Induction):
     def may_hold_anything(self, cell):
         return self.is_guessing
 
-    def said(self, k):
+    def defined(self, k):
         return self.loop.definition(k)
 
     def supposed(self, k):
@@ -174,8 +174,8 @@ class Proof(Induction):
         if not isinstance(answer, tuple) or answer[1] != self.head:
             raise NotShown(f"{self.loop.name}: a turn goes to {answer}")
         size = self.loop.width // 8
-        words = [memory.load(at, size) for memory, at in self.loop.cells]
-        for (memory, at), x in zip(self.loop.cells, words):
+        values = [memory.load(at, size) for memory, at in self.loop.cells]
+        for (memory, at), x in zip(self.loop.cells, values):
             memory.store(at, size, x)
 
     def walk(self, until):

@@ -1,14 +1,14 @@
 """Runs functions of LLVM code symbolically. Addresses, lengths and branches are numbers, or polynomials that the facts
 decide; bytes of an input are terms. A vector is one number, with its first lane in the lowest bits."""
 from . import halves, operations
-from .llvm_text import (NOTHING, Array, FunctionName, Pointer, Reader, Register, Struct, Vector, alignment_said,
+from .llvm_text import (NOTHING, Array, FunctionName, Pointer, Reader, Register, Struct, Vector, alignment_of,
                         instruction, place_of)
 from .memory import Input, Memory, taken
 from .nodes import Node, symbol
 from .operations import bits, side_by_side
 from .polynomials import Poly, constant_of, is_natural, is_number, lifted, minus, plus
 from .refusals import Undecided, Unsupported
-from .words import BINARY, compare_numbers, rotated, signed
+from .modular import BINARY, compare_numbers, rotated, signed
 
 
 WORD = 64
@@ -333,7 +333,7 @@ class Module:
     """
 
     def __init__(self, text):
-        self.types, self.functions, self.globals, self.made, self.called = {}, {}, {}, 0, set()
+        self.types, self.functions, self.globals, self.fresh_count, self.called = {}, {}, {}, 0, set()
         self.lines, self.multiplies_by_halves = text.split("\n"), " i128 " not in text
         self.reset()
         for line in self.lines:
@@ -361,15 +361,15 @@ class Module:
         while reader.next() not in ("constant", "global"):
             pass
         t = reader.type()
-        self.globals[name] = Memory(name, t.size(), reader.initial(t), alignment=alignment_said(reader))
+        self.globals[name] = Memory(name, t.size(), reader.initial(t), alignment=alignment_of(reader))
 
     def address_of(self, name):
         return (self.globals[name], 0) if name in self.globals else FunctionName(name)
 
     def fresh(self, prefix):
         """Returns a symbol name not used before."""
-        self.made += 1
-        return f"{prefix}#{self.made}"
+        self.fresh_count += 1
+        return f"{prefix}#{self.fresh_count}"
 
     def call(self, name, arguments):
         if name == NOTHING or name.startswith("@llvm."):

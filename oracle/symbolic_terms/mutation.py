@@ -15,10 +15,10 @@ import resource
 import signal
 import sys
 
-import antt
-import mutants
-import proved_cases
-from reasons import CRASH, UNNOTICED, WRONG_RULE
+from oracle import antt
+from oracle import mutants
+from oracle import proved_cases
+from oracle.reasons import CRASH, UNNOTICED, WRONG_RULE
 
 from . import definition, every_length, header_calls, nodes, reference
 from .header_names import OURS, names_of
@@ -72,7 +72,7 @@ def differs(request, a, b):
 def definition_at(request, entries, point):
     """Returns the definition's value of a request at concrete values of the symbols."""
     seed = request.seed() if isinstance(request.seed(), int) else point[request.seed().parts[0]]
-    return definition.value(entries, request.hash_name, request.kind, seed, memoryview(point["s"]), memoryview(point["m"]))
+    return definition.value(entries, request.hash_name, request.variant, seed, memoryview(point["s"]), memoryview(point["m"]))
 
 
 def differing_point_of_numbers(request, entries, b, count=3):
@@ -156,8 +156,8 @@ def of_text(module, part, parts):
             case.outcome = None
         what = mutants.outcome(program, by_definition, change)
         changed = program.definitions.modules[change.path].definitions[change.name]
-        told = [case.outcome for case in by_definition.get(changed, ()) if case.outcome]
-        out.append((what if what == "unreadable" else told[-1] if told else UNNOTICED, change.text))
+        outcomes = [case.outcome for case in by_definition.get(changed, ()) if case.outcome]
+        out.append((what if what == "unreadable" else outcomes[-1] if outcomes else UNNOTICED, change.text))
         nodes.release(known)
     return out
 
@@ -236,9 +236,9 @@ def of_reference(module, sample, part, parts):
     by_function, known, out = reaching(module, requests), nodes.mark(), []
     reached = [change for change in all_lines(module) if change[0] in by_function]
     for name, k, other in reached[:sample][part::parts]:
-        kept = module.functions[name]
+        original = module.functions[name]
         what = changed_outcome(module, (name, k, other), by_function[name], answers)
-        module.functions[name] = kept
+        module.functions[name] = original
         out.append((what, f"{name} line {k + 1}: {module.lines[k].strip()}  ->  {other.strip()}"))
         nodes.release(known)
     return out
@@ -317,25 +317,25 @@ AT_LARGE_LENGTHS = [
 
 def by_induction(module):
     """Yields for each of these: whether the induction refuses it, and a line."""
-    for words, path, old, new, kind in AT_LARGE_LENGTHS:
+    for title, path, old, new, algorithm in AT_LARGE_LENGTHS:
         program = definition.read()
         with_text(program, path, old, new)
         try:
-            every_length.show(module, kind, program)
-            yield False, f"{words}: shown"
+            every_length.show(module, algorithm, program)
+            yield False, f"{title}: shown"
         except REFUSALS as error:
-            yield True, f"{words}: {type(error).__name__}: {error}"
+            yield True, f"{title}: {type(error).__name__}: {error}"
 
 
 def with_text(program, path, old, new):
     """Replaces a text of a clause by another one."""
-    words, others = ([word for word, _ in antt.tokens(text)] for text in (old, new))
+    old_tokens, others = ([word for word, _ in antt.tokens(text)] for text in (old, new))
     for changed in program.order:
         for number, (left, right) in enumerate(changed.clauses if changed.module.path == f"Rattle.{path}" else ()):
             line = [changed.name] + [word for word, _ in left] + ["="] + [word for word, _ in right]
-            places = [k for k in range(len(line)) if line[k:k + len(words)] == words]
+            places = [k for k in range(len(line)) if line[k:k + len(old_tokens)] == old_tokens]
             if places:
-                line[places[0]:places[0] + len(words)] = others
+                line[places[0]:places[0] + len(old_tokens)] = others
                 sides = [[word for word, _ in side] for _, side in changed.clauses]
                 sides[number] = line[line.index("=") + 1:]
                 program.code[changed] = program.python(changed, sides)

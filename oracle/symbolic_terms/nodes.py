@@ -24,10 +24,10 @@ class WrongRule(Exception):
 
 
 class Node:
-    __slots__ = "number", "kind", "width", "most", "parts", "constant", "is_exact", "values", "segments"
+    __slots__ = "number", "op", "width", "most", "parts", "constant", "is_exact", "values", "segments"
 
     def __repr__(self):
-        return f"<{self.kind}{self.width} #{self.number}>"
+        return f"<{self.op}{self.width} #{self.number}>"
 
 
 NODES, BY_KEY = [], {}
@@ -35,7 +35,7 @@ MEMOS = [BY_KEY]           # dictionaries to clear together with the table
 USED = {}                  # name of a rule -> number of its uses
 symbol_values = {}         # name of a symbol -> its values
 EXTREME = bytes([0] * 90 + [255] * 90 + [1] * 20 + [128] * 20 + list(range(220, 256)))
-draw = random.Random(20240229)
+rng = random.Random(20240229)
 
 
 def memo():
@@ -69,29 +69,29 @@ def release(point):
             known.popitem()
 
 
-def node(kind, parts, width, most, constant=0, is_exact=False):
+def node(op, parts, width, most, constant=0, is_exact=False):
     """Returns the node of a structure, made only once. `most` is an upper bound of its value."""
-    if kind is BITS:
-        key = kind, parts
-    elif kind is SUM:
-        key = kind, width, constant, tuple((c, x.number) for c, x in parts)
-    elif kind is PRODUCT:
-        key = kind, width, tuple(x.number for x in parts)
+    if op is BITS:
+        key = op, parts
+    elif op is SUM:
+        key = op, width, constant, tuple((c, x.number) for c, x in parts)
+    elif op is PRODUCT:
+        key = op, width, tuple(x.number for x in parts)
     else:
-        key = kind, tuple(x if isinstance(x, (int, str)) else ("node", x.number) for x in parts)
+        key = op, tuple(x if isinstance(x, (int, str)) else ("node", x.number) for x in parts)
     known = BY_KEY.get(key)
     if known is None:
-        known = BY_KEY[key] = made(kind, parts, width, most, constant, is_exact)
+        known = BY_KEY[key] = new_node(op, parts, width, most, constant, is_exact)
     return known
 
 
-def made(kind, parts, width, most, constant, is_exact):
+def new_node(op, parts, width, most, constant, is_exact):
     out = Node()
-    out.number, out.kind, out.width, out.most, out.parts = len(NODES), kind, width, most, parts
+    out.number, out.op, out.width, out.most, out.parts = len(NODES), op, width, most, parts
     out.constant, out.is_exact = constant, is_exact
-    out.segments = parts if kind is BITS else ((width, 0, ((out.number, 0),)),)
+    out.segments = parts if op is BITS else ((width, 0, ((out.number, 0),)),)
     NODES.append(out)
-    if kind is SYMBOL:
+    if op is SYMBOL:
         out.values = values_of_symbol(parts[0], width)
     else:
         out.values = tuple(meaning(out, lambda x, k=k: x if isinstance(x, int) else x.values[k]) for k in range(POINTS))
@@ -111,7 +111,7 @@ def values_of_symbol(name, width):
     """Returns random values. In the second one most bytes are 0 or 255, so that sums have long carries."""
     if name not in symbol_values:
         size = (width + 7) // 8
-        values = [draw.randbytes(size) for _ in range(POINTS)]
+        values = [rng.randbytes(size) for _ in range(POINTS)]
         values[1] = values[1].translate(EXTREME)
         numbers = [int.from_bytes(value, "little") % (1 << width) for value in values] if width <= WORD else values
         symbol_values[name] = tuple(numbers)
@@ -134,7 +134,7 @@ NATURALS = {
 
 def meaning(x, value):
     """Returns the value of a node, from the values of its parts."""
-    if x.kind is BITS:
+    if x.op is BITS:
         out = at = 0
         for length, part, atoms in x.parts:
             for atom, first in atoms:
@@ -142,9 +142,9 @@ def meaning(x, value):
             out |= part << at
             at += length
         return out
-    if x.kind is SUM:
+    if x.op is SUM:
         return (x.constant + sum(c * value(y) for c, y in x.parts)) % (1 << x.width)
-    if x.kind is PRODUCT:
+    if x.op is PRODUCT:
         out = 1
         for y in x.parts:
             out *= value(y)
@@ -154,9 +154,9 @@ def meaning(x, value):
 
 def children(x):
     """Returns the nodes inside a node."""
-    if x.kind is BITS:
+    if x.op is BITS:
         return [NODES[atom] for _, _, atoms in x.parts for atom, _ in atoms]
-    if x.kind is SUM:
+    if x.op is SUM:
         return [y for _, y in x.parts]
     return [y for y in x.parts if isinstance(y, Node)]
 
@@ -170,13 +170,13 @@ def values_at(roots, symbols):
     waiting = [x for x in roots if isinstance(x, Node)]
     while waiting:
         x = waiting[-1]
-        below = [] if x.number in known or x.kind is SYMBOL else [y for y in children(x) if y.number not in known]
+        below = [] if x.number in known or x.op is SYMBOL else [y for y in children(x) if y.number not in known]
         if below:
             waiting += below
             continue
         waiting.pop()
         if x.number not in known:
-            known[x.number] = symbols[x.parts[0]] if x.kind is SYMBOL else meaning(x, value)
+            known[x.number] = symbols[x.parts[0]] if x.op is SYMBOL else meaning(x, value)
     return [value(x) for x in roots]
 
 

@@ -191,9 +191,9 @@ def masked(a, mask):
     """Returns a under a mask, as segments."""
     out, at = [], 0
     while mask >> at:
-        is_kept = mask >> at & 1
-        run = zeros_below(~(mask >> at)) if is_kept else zeros_below(mask >> at)
-        out += bits_of(a, at, run) if is_kept else [(run, 0, ())]
+        is_set = mask >> at & 1
+        run = zeros_below(~(mask >> at)) if is_set else zeros_below(mask >> at)
+        out += bits_of(a, at, run) if is_set else [(run, 0, ())]
         at += run
     return out
 

@@ -54,7 +54,7 @@ class PlainStreams(Proof):
         return [] if is_same_number(r, 0) else [(first, plus(first, r), self.source, minus(times(self.stripe, a), first))]
 
     def state(self, a, r):
-        accumulators = self.words_after(a, lambda j: self.accumulator(j, a), 4, self.width)
+        accumulators = self.symbols_after(a, lambda j: self.accumulator(j, a), 4, self.width)
         first = self.at["buffer"]
         return Memory("state", self.size, self.numbers(a, r, accumulators), self.buffered(a, r),
                       run_area=(first, first + self.stripe))
@@ -104,10 +104,10 @@ class PlainStreams(Proof):
             memory = self.state(a, r)
             of_state = [(memory, self.at["accumulators"] + self.word * j) for j in range(4)]
             cells = of_state if self.names is REFERENCE else None
-            say = plain_loop(self.names, "an update's stripes", self.texts[f"Xxh{self.width}.accumulator"], self.seed,
-                             self.message, minus(minus(b, first), 1), self.width, first, cells)
-            self.module.loops.said.update({self.function("update"): say, **{
-                name.format(self.width): of_any_length(say, self.names) for name in self.names.update_loops}})
+            describe = plain_loop(self.names, "an update's stripes", self.texts[f"Xxh{self.width}.accumulator"], self.seed,
+                                  self.message, minus(minus(b, first), 1), self.width, first, cells)
+            self.module.loops.describers.update({self.function("update"): describe, **{
+                name.format(self.width): of_any_length(describe, self.names) for name in self.names.update_loops}})
             self.module.live.append(memory)
             length = minus(ended, begun)
             piece = Piece(self.source, begun, length)
@@ -143,15 +143,15 @@ def at_least_one(a):
     return [] if is_same_number(a, 0) else [minus(a, 1)]
 
 
-def of_any_length(say, names):
-    """Returns a function that describes a loop like `say`, if the length isn't a number."""
+def of_any_length(describe, names):
+    """Returns a function that describes a loop like `describe`, if the length isn't a number."""
     return lambda function, registers: (
-        None if isinstance(registers.get(names.plain_length), int) else say(function, registers))
+        None if isinstance(registers.get(names.plain_length), int) else describe(function, registers))
 
 
-def show(module, kind):
+def show(module, algorithm):
     """Proves the streams of XXH32 or XXH64. Returns the proof, or raises."""
-    streams = PlainStreams(module, int(kind))
+    streams = PlainStreams(module, int(algorithm))
     streams.reset()
     streams.update_of_nothing()
     streams.updates()

@@ -12,7 +12,7 @@ from .refusals import Undecided
 
 WORD = 64
 DEPTH = 4                     # maximum number of subtracted facts
-TRIED, KEPT = 60, 8           # points drawn, and points kept
+TRIED, ENOUGH = 60, 8           # points drawn, and points kept
 NEAR, STAYS = 100, 0.7        # points drawn near known ones, and the probability that a variable keeps its value
 SEARCHED, IN_TURN = 400, 20   # points drawn until one is found, and how many of these use the same choices
 MOVES = 40                    # steps to move a point to where the facts hold
@@ -94,7 +94,7 @@ def parts_of(x):
     return x.parts if isinstance(x, Poly) else {(): x} if x else {}
 
 
-def made(parts):
+def polynomial(parts):
     parts = {names: c for names, c in parts.items() if c}
     return Poly(parts) if any(parts) else parts.get((), 0)
 
@@ -110,7 +110,7 @@ def plus(*terms):
     for x in terms:
         for names, c in parts_of(x).items():
             out[names] = out.get(names, 0) + c
-    return made(out)
+    return polynomial(out)
 
 
 def with_constant(x, c):
@@ -129,7 +129,7 @@ def minus(a, b):
     out = dict(parts_of(a))
     for names, c in b.parts.items():
         out[names] = out.get(names, 0) - c
-    return made(out)
+    return polynomial(out)
 
 
 def times(a, b):
@@ -140,7 +140,7 @@ def times(a, b):
         for others, d in parts_of(b).items():
             key = tuple(sorted(names + others))
             out[key] = out.get(key, 0) + c * d
-    return made(out)
+    return polynomial(out)
 
 
 def constant_of(x):
@@ -212,8 +212,8 @@ def decided_under(around):
     points that satisfy them. Points of the enclosing facts are tried first."""
     key = frozenset([*(fact.key() for fact in facts), *least.items()])
     if key not in decided:
-        names, draw = sorted(names_of(*facts)), random.Random(1)
-        found = drawn_points(names, draw, around.points, NEAR) or drawn_points(names, draw, (), SEARCHED)
+        names, rng = sorted(names_of(*facts)), random.Random(1)
+        found = random_points(names, rng, around.points, NEAR) or random_points(names, rng, (), SEARCHED)
         if not found:
             raise Undecided(f"facts that hold nowhere, as far as was seen: {facts} {least}")
         if len(decided) == SETS:
@@ -222,29 +222,29 @@ def decided_under(around):
     return decided[key]
 
 
-def drawn_points(names, draw, around, attempts):
+def random_points(names, rng, around, attempts):
     """Returns points that satisfy the facts, near to the points `around` if there are any."""
     found = []
     for attempt in range(attempts):
         choices = CHOICES[attempt // IN_TURN % len(CHOICES)]
         begun = around[attempt % len(around)] if around else {}
-        kept = {name for name in begun if attempt < TRIED or draw.random() < STAYS}
-        point = {name: max(begun[name], least.get(name, 0)) if name in kept else
-                 least.get(name, 0) + (draw.choice(choices) if attempt else 0) for name in names}
-        found += [point for point in [moved(point, draw)] if point is not None]
-        if len(found) == KEPT or found and attempt > TRIED:
+        fixed = {name for name in begun if attempt < TRIED or rng.random() < STAYS}
+        point = {name: max(begun[name], least.get(name, 0)) if name in fixed else
+                 least.get(name, 0) + (rng.choice(choices) if attempt else 0) for name in names}
+        found += [point for point in [moved(point, rng)] if point is not None]
+        if len(found) == ENOUGH or found and attempt > TRIED:
             break
     return found
 
 
-def moved(point, draw):
+def moved(point, rng):
     """Moves a point, one variable after another, until it satisfies the facts. Returns None if that fails."""
     for _ in range(MOVES):
         broken = [(fact, value) for fact in facts if (value := value_at(fact, point)) < 0]
         if not broken:
             return point
-        fact, value = draw.choice(broken)
-        name = draw.choice(sorted(names_of(fact)))
+        fact, value = rng.choice(broken)
+        name = rng.choice(sorted(names_of(fact)))
         slope = value_at(fact, {**point, name: point[name] + 1}) - value
         if slope:
             steps = -(value // abs(slope))
@@ -350,8 +350,8 @@ def quotients(a, b):
     names, d = max(parts_of(b).items(), key=lambda part: len(part[0]))
     parts = [(rest, c) for product, c in parts_of(a).items() for rest in [without(names, product)] if rest is not None]
     for is_near in (False, True):
-        guess = made({rest: (2 * c + d) // (2 * d) if is_near and rest else c // d for rest, c in parts
-                      if is_near or c % d == 0 or not rest})
+        guess = polynomial({rest: (2 * c + d) // (2 * d) if is_near and rest else c // d for rest, c in parts
+                            if is_near or c % d == 0 or not rest})
         yield from (plus(guess, more) for more in (0, -1, 1))
 
 

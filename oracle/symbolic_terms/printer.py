@@ -8,7 +8,7 @@ NAMES = {"m": "message", "s": "secret", "seed32": "seed", "seed64": "seed"}
 
 def bits_shown(x, first, length, names):
     """Returns some bits of a node that isn't BITS, as text."""
-    if x.kind is SYMBOL:
+    if x.op is SYMBOL:
         name = NAMES[x.parts[0]]
         if x.width <= 64:
             return name if (first, length) == (0, x.width) else f"{name}[bits {first} to {first + length - 1}]"
@@ -28,7 +28,7 @@ def segment_shown(segment, names):
 
 def shown(x, names):
     """Returns a node as text, with the names of its parts."""
-    if x.kind is BITS:
+    if x.op is BITS:
         if len(x.parts) == 1:
             return segment_shown(x.parts[0], names)
         places, at = [], 0
@@ -36,7 +36,7 @@ def shown(x, names):
             places.append(f"({segment_shown(segment, names)}) at bit {at}" if segment[2] or segment[1] else "")
             at += segment[0]
         return ", ".join(place for place in places if place)
-    if x.kind is SUM:
+    if x.op is SUM:
         parts = [f"{c:#x} * {named(y, names)}" if c != 1 else named(y, names) for c, y in x.parts]
         out = " + ".join(sorted(parts) + [f"{x.constant:#x}"] * bool(x.constant))
         return out if x.is_exact else f"({out}) mod 2^{x.width}"
@@ -45,7 +45,7 @@ def shown(x, names):
 
 
 def named(x, names):
-    if x.kind is SYMBOL:
+    if x.op is SYMBOL:
         return bits_shown(x, 0, x.width, names)
     return names.get(x.number) or "(" + shown(x, names) + ")"
 
@@ -55,11 +55,11 @@ def steps(value):
     lines, names = [], {}
 
     def visit(x):
-        if x.number in names or x.kind is SYMBOL:
+        if x.number in names or x.op is SYMBOL:
             return
         for y in nodes.children(x):
             visit(y)
-        if x.kind in (SUM, PRODUCT):
+        if x.op in (SUM, PRODUCT):
             text = shown(x, names)
             names[x.number] = f"t{len(names) + 1}"
             lines.append(f"{names[x.number]} = {text}")

@@ -9,7 +9,7 @@ import threading
 import time
 import traceback
 
-import antt
+from oracle import antt
 
 from . import definition, mutation
 from .refusals import REFUSALS

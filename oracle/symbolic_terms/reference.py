@@ -3,18 +3,15 @@ import hashlib
 import os
 import shutil
 import subprocess
-import sys
 import tempfile
 
-FOLDER = os.path.dirname(os.path.abspath(__file__))
-sys.path.append(os.path.join(FOLDER, "..", "..", "checks", "lib"))
-
-import tools
+from checks.lib import tools
 
 from .machine import Module
 from .memory import Memory
 from .nodes import Node
 
+FOLDER = os.path.dirname(os.path.abspath(__file__))
 HEADERS = "/usr/include"          # folder of Debian's libxxhash-dev
 VECTORS = {"scalar": ["-DXXH_VECTOR=0"], "sse2": ["-DXXH_VECTOR=1"], "avx2": ["-DXXH_VECTOR=2", "-mavx2"]}
 # Forms of c/include/xxhash.h: also without products of 128 bits, with words that are read byte by byte, as on
@@ -48,10 +45,10 @@ def llvm_text(headers=HEADERS, vector="scalar"):
     public functions. The header is copied to a separate folder: clang ignores `-I /usr/include`, and could use a header
     of another folder."""
     flags = FORMS[vector] + (ALL_PUBLIC if is_ours(headers) else [])
-    with tempfile.TemporaryDirectory(prefix="symbolic-") as room:
-        out = f"{room}/reference.ll"
-        shutil.copy(f"{headers}/xxhash.h", room)
-        subprocess.run([CLANG, "-O0", "-w", "-fno-discard-value-names", "-S", "-emit-llvm", *flags, "-I", room,
+    with tempfile.TemporaryDirectory(prefix="symbolic-") as workdir:
+        out = f"{workdir}/reference.ll"
+        shutil.copy(f"{headers}/xxhash.h", workdir)
+        subprocess.run([CLANG, "-O0", "-w", "-fno-discard-value-names", "-S", "-emit-llvm", *flags, "-I", workdir,
                         f"{FOLDER}/reference.c", "-o", out], check=True)
         with open(out, encoding="utf-8") as file:
             return file.read()
@@ -86,5 +83,5 @@ def of_reference(request, module):
     if isinstance(seed, Node):
         module.suppose_different(seed, 0)
     way = "once" if request.cuts is None else "stream"
-    value = module.call(f"@{way}_{request.hash_name.replace('-', '_')}_{request.kind}", arguments)
+    value = module.call(f"@{way}_{request.hash_name.replace('-', '_')}_{request.variant}", arguments)
     return out.load(0, 16) if request.hash_name == "3-128" else value

@@ -137,7 +137,7 @@ def bits_of(x, first, n):
     if isinstance(x, int):
         return [(n, x >> first & ones(n), ())]
     have = max(0, min(n, x.width - first))
-    if x.kind is BITS:
+    if x.op is BITS:
         out = bits_of_segments(x.parts, first, have)
     else:
         out = bits_of_atom(x, first, have) if have else []
@@ -157,7 +157,7 @@ def bits_of_segments(segments, first, n):
 
 
 def bits_of_atom(x, first, n):
-    if first == 0 and n == x.width or x.kind in (SYMBOL, OPAQUE):
+    if first == 0 and n == x.width or x.op in (SYMBOL, OPAQUE):
         return [(n, 0, ((x.number, first),))]
     key = x.number, first, n
     if key not in bits_memo:
@@ -170,7 +170,7 @@ def bits_of_sum(x, first, n):
     for width in STANDARD:
         if first + n <= width < x.width:
             return bits_of(narrow(x, width), first, n)
-    if x.kind is SUM and first >= SPLIT_AT:
+    if x.op is SUM and first >= SPLIT_AT:
         split = high_of_a_sum(x, first)
         if split is not None:
             return bits_of(split, 0, n)
@@ -196,10 +196,10 @@ def narrow(x, width):
         return x % (1 << width)
     if x.width <= width or x.most < 1 << width:
         return x
-    if x.kind is SUM:
+    if x.op is SUM:
         use("narrowed_sum")
         return sum_at(width, x.constant, x.parts)
-    if x.kind is PRODUCT:
+    if x.op is PRODUCT:
         use("narrowed_product")
         return product_at(width, x.parts)
     return from_segments(bits_of(x, 0, width))
@@ -280,7 +280,7 @@ class Collected:
             c, x = self.waiting.pop()
             if isinstance(x, int):
                 self.constant += c * x
-            elif x.kind is SUM and (x.is_exact or zeros_below(c) + x.width >= self.width):
+            elif x.op is SUM and (x.is_exact or zeros_below(c) + x.width >= self.width):
                 self.take_apart(c, x)
             else:
                 self.take_segments(c, x)
@@ -307,21 +307,21 @@ class Collected:
 
     def take_segment(self, c, segment):
         length, constant, atoms = segment
-        room = self.width - zeros_below(c)   # number of bits of the segment that count
+        available = self.width - zeros_below(c)   # number of bits of the segment that count
         whole = NODES[atoms[0][0]]
-        is_low = len(atoms) == 1 and not constant and not atoms[0][1] and whole.kind is SUM
-        if is_low and (min(length, whole.width) >= room or whole.is_exact and length == whole.width):
+        is_low = len(atoms) == 1 and not constant and not atoms[0][1] and whole.op is SUM
+        if is_low and (min(length, whole.width) >= available or whole.is_exact and length == whole.width):
             self.take_apart(c, whole)
-        elif length == self.width and constant == ones(length) and room == length:
+        elif length == self.width and constant == ones(length) and available == length:
             use("complement")
             self.constant += c * constant
             self.put(-c, (length, 0, atoms))
-        elif length <= room:
+        elif length <= available:
             self.put(c, segment)
         else:
             use("narrowed_factor")
-            low = from_segments(cut_segment(segment, 0, room))
-            if isinstance(low, Node) and len(low.segments) == 1 and low.kind is not SUM:
+            low = from_segments(cut_segment(segment, 0, available))
+            if isinstance(low, Node) and len(low.segments) == 1 and low.op is not SUM:
                 self.put(c, low.segments[0])
             else:
                 self.waiting.append((c, low))
@@ -338,9 +338,9 @@ class Collected:
         for key, runs in self.runs.items():
             for first, length, constant, c in joined_runs(runs, mask) if len(runs) > 1 else runs:
                 segment = length, constant, tuple((atom, at + first) for atom, at in key)
-                room = self.width - zeros_below(c & mask)
-                is_cut = is_cut or length > room
-                out.append((c & mask, from_segments(cut_segment(segment, 0, min(length, room)))))
+                available = self.width - zeros_below(c & mask)
+                is_cut = is_cut or length > available
+                out.append((c & mask, from_segments(cut_segment(segment, 0, min(length, available)))))
         return out, is_cut
 
 

@@ -6,11 +6,11 @@ import random
 import re
 import sys
 
-import table
+from oracle import table
 
 from . import comparison, definition, halves, nodes, operations, reference
 from .requests import Request
-from .words import BINARY
+from .modular import BINARY
 from .nodes import BITS, NODES, SUM, SYMBOL, Node, most_of, symbol, values_at
 from .operations import (add, add_at, bits, both, either, monus, multiply, multiply_at, quotient, remainder,
                          shift_right,
@@ -38,9 +38,9 @@ def rules_are_proved(module):
 
 # ---- random operations, each compared with numbers at eight points, and laws
 
-def constant(draw):
-    return draw.choice((draw.getrandbits(draw.choice((3, 8, 32, 64))), 1 << draw.randrange(70),
-                        (1 << draw.randrange(1, 65)) - 1, PRIME))
+def constant(rng):
+    return rng.choice((rng.getrandbits(rng.choice((3, 8, 32, 64))), 1 << rng.randrange(70),
+                       (1 << rng.randrange(1, 65)) - 1, PRIME))
 
 
 def rotated(x, k, width=64):
@@ -64,42 +64,42 @@ def by_halves(x, y):
     return upper, step("or", bits(lowest, 0, 32), step("shl", second, 32))
 
 
-def random_operation(draw, pool):
-    a, b = draw.choice(pool), draw.choice(pool) if draw.random() < 0.7 else constant(draw)
-    width, k = draw.choice((8, 31, 32, 64, 64, 64, 128)), draw.randrange(70)
-    return draw.choice((
+def random_operation(rng, pool):
+    a, b = rng.choice(pool), rng.choice(pool) if rng.random() < 0.7 else constant(rng)
+    width, k = rng.choice((8, 31, 32, 64, 64, 64, 128)), rng.randrange(70)
+    return rng.choice((
         lambda: add(a, b), lambda: remainder(multiply(a, b), 1 << width), lambda: xor(a, b), lambda: shift_right(a, k),
-        lambda: bits(a, k, draw.randrange(1, 70)), lambda: multiply_at(width, a, b), lambda: remainder(a, 1 << width),
-        lambda: add_at(width, (constant(draw), a), (constant(draw), b), (-1, draw.choice(pool))),
-        lambda: monus(1 << max(width, most_of(a).bit_length()), a), lambda: both(a, constant(draw)),
+        lambda: bits(a, k, rng.randrange(1, 70)), lambda: multiply_at(width, a, b), lambda: remainder(a, 1 << width),
+        lambda: add_at(width, (constant(rng), a), (constant(rng), b), (-1, rng.choice(pool))),
+        lambda: monus(1 << max(width, most_of(a).bit_length()), a), lambda: both(a, constant(rng)),
         lambda: rotated(bits(a, 0, width), k % width, width), lambda: turned(bits(a, 0, 64)),
         lambda: quotient(a, 1 << k)))()
 
 
 def random_operations(module, rounds):
-    nodes.POINTS, draw, made, bad = MANY_POINTS, random.Random(1), 0, []
+    nodes.POINTS, rng, count, bad = MANY_POINTS, random.Random(1), 0, []
     for _ in range(rounds):
         nodes.forget()
         message = symbol("m", 8 * 64)
-        pool = [bits(message, 8 * draw.randrange(40), draw.choice((8, 32, 64))) for _ in range(4)]
+        pool = [bits(message, 8 * rng.randrange(40), rng.choice((8, 32, 64))) for _ in range(4)]
         pool.append(symbol("seed", 64))
         for _ in range(40):
-            x = random_operation(draw, pool)
-            made += 1
+            x = random_operation(rng, pool)
+            count += 1
             if isinstance(x, Node) and x.width <= 256:
                 pool = [*pool, x][-14:]
-        bad += [f"law {number}" for number, (a, b) in enumerate(laws(draw, message)) if not nodes.is_same(a, b)]
-    return f"{made} operations at {MANY_POINTS} points, {rounds} times each law", bad
+        bad += [f"law {number}" for number, (a, b) in enumerate(laws(rng, message)) if not nodes.is_same(a, b)]
+    return f"{count} operations at {MANY_POINTS} points, {rounds} times each law", bad
 
 
-def laws(draw, message):
+def laws(rng, message):
     """Returns pairs of equal values in two forms."""
     def word():
-        return bits(message, 8 * draw.randrange(50), 64)
+        return bits(message, 8 * rng.randrange(50), 64)
 
     def wrap(x):
         return remainder(x, 1 << 64)
-    x, y, z, c, k = word(), word(), word(), constant(draw) % (1 << 64) | 5, draw.randrange(1, 64)
+    x, y, z, c, k = word(), word(), word(), constant(rng) % (1 << 64) | 5, rng.randrange(1, 64)
     s = wrap(add(x, multiply(y, PRIME)))
     v = xor(s, z)
     return [
@@ -146,8 +146,8 @@ def table_cases(module):
         if repr(request) not in terms:
             terms[repr(request)] = reference.of_reference(request, module)
         seed = case.seed or 0
-        point = {"m": bytes(table.drawn(case.start, case.length)), "seed32": seed % 2 ** 32, "seed64": seed,
-                 "s": bytes(table.drawn(case.secret[1], case.secret[0])) if case.secret else b""}
+        point = {"m": bytes(table.generated(case.start, case.length)), "seed32": seed % 2 ** 32, "seed64": seed,
+                 "s": bytes(table.generated(case.secret[1], case.secret[0])) if case.secret else b""}
         if values_at([terms[repr(request)]], point) != [case.answer]:
             bad.append(f"disagrees: {case.line}")
     return f"{len(cases)} cases of up to {LONGEST_CASE} bytes", bad
@@ -189,17 +189,17 @@ class Solver:
         if isinstance(x, int):
             return self.number(x, max(1, x.bit_length()))
         if x.number not in known:
-            if depth == 0 or x.kind is SYMBOL:
+            if depth == 0 or x.op is SYMBOL:
                 known[x.number] = self.z3.BitVec(f"v{x.number}", x.width)
             else:
                 known[x.number] = self.structure(x, depth - 1, known)
         return known[x.number]
 
     def structure(self, x, depth, known):
-        if x.kind is BITS:
+        if x.op is BITS:
             parts = [self.segment(segment, depth, known) for segment in x.parts]
             return self.z3.Concat(*reversed(parts)) if len(parts) > 1 else parts[0]
-        if x.kind is SUM:
+        if x.op is SUM:
             out = self.number(x.constant, x.width)
             for c, y in x.parts:
                 out = out + self.number(c, x.width) * self.sized(self.term(y, depth, known), x.width)
@@ -277,9 +277,9 @@ def by_solver(module):
     nodes.forget()
     solver, entries = Solver(), definition.program().run()
     operations.watching.append(solver.watch)
-    for name, kind, secret in comparison.kinds((136,)):
+    for name, variant, secret in comparison.algorithms((136,)):
         for length in range(SOLVED + 1):
-            request = Request(name, kind, length, secret)
+            request = Request(name, variant, length, secret)
             request.of_definition(entries), reference.of_reference(request, module)
     operations.watching.clear()
     asked = list(solver.asked.values())[::EACH]
@@ -287,5 +287,5 @@ def by_solver(module):
     undecided = sum(holds is None for holds, _ in found)
     bad = [f"{name} of {arguments}: {answer}" for holds, (name, answer, arguments) in found if holds is False]
     bad += ["half of the operations aren't decided"] if 2 * undecided > len(found) else []
-    told = f"{len(found) - undecided} of {len(found)} operations hold for all values"
-    return f"{told}, {undecided} weren't decided in {SECONDS} s each", bad
+    message = f"{len(found) - undecided} of {len(found)} operations hold for all values"
+    return f"{message}, {undecided} weren't decided in {SECONDS} s each", bad

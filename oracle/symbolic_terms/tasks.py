@@ -5,8 +5,8 @@ import os
 import tempfile
 import unittest.mock
 
-import mutants
-from reasons import Reasons, is_fault
+from oracle import mutants
+from oracle.reasons import Reasons, is_fault
 
 from . import (c_header, comparison, cuts, every_length, header_coverage, header_faults, header_mutants, mutation,
                plain_streams, processes, self_tests, xxh3_streams)
@@ -47,7 +47,7 @@ def of_c_header(given):
     proofs = c_header.proofs(given.all)
     tasks = [Task("each public function has a task", functools.partial(header_coverage.all_compared, proofs)),
              Task("a public function without a task is missed", functools.partial(header_coverage.planted, proofs))]
-    tasks += [Task(title, functools.partial(header_coverage.proved, show, kind), form) for title, show, kind, form in proofs]
+    tasks += [Task(title, functools.partial(header_coverage.proved, show, case), form) for title, show, case, form in proofs]
     tasks += [Task(title, ask) for title, ask in header_faults.planted(given.all, given.headers)]
     title, ask = "changes of LLVM's text", functools.partial(line_changes, sample=LINES if given.all else FEW_LINES)
     tasks += [Task(f"{title}, part {part + 1} of {PARTS}", functools.partial(ask, part=part, parts=PARTS), is_deep=False)
@@ -58,13 +58,13 @@ def of_c_header(given):
 # ---- single lengths
 
 def lengths(is_all, vector):
-    for kind in comparison.kinds(SECRETS if is_all else GATE_SECRETS):
-        yield compared(title_of(*kind), kind, range(301) if is_all else some_lengths(*kind), vector)
+    for algorithm in comparison.algorithms(SECRETS if is_all else GATE_SECRETS):
+        yield compared(title_of(*algorithm), algorithm, range(301) if is_all else some_lengths(*algorithm), vector)
         if is_all:
-            yield compared(title_of(*kind), kind, range(301, 1101), vector)
-            yield compared(f"{title_of(*kind)}, at edges", kind, comparison.edges(kind[2]), vector)
-            if kind[2] in (None, *STREAM_SECRETS):
-                yield compared(f"{title_of(*kind)}, streams", kind, cuts.STREAMED, vector, cuts.streams)
+            yield compared(title_of(*algorithm), algorithm, range(301, 1101), vector)
+            yield compared(f"{title_of(*algorithm)}, at edges", algorithm, comparison.edges(algorithm[2]), vector)
+            if algorithm[2] in (None, *STREAM_SECRETS):
+                yield compared(f"{title_of(*algorithm)}, streams", algorithm, cuts.STREAMED, vector, cuts.streams)
 
 
 def some_lengths(hash_name, _, secret):
@@ -75,15 +75,15 @@ def some_lengths(hash_name, _, secret):
 
 def vector_lengths(vectors):
     """Returns the tasks of the code for other vector instructions, which differs from 241 bytes on."""
-    kinds = [kind for kind in comparison.kinds((136,)) if kind[0].startswith("3-")]
-    return [compared(title_of(*kind), kind, [*range(241, 501), *comparison.edges(kind[2])], vector)
-            for vector in vectors for kind in kinds]
+    algorithms = [algorithm for algorithm in comparison.algorithms((136,)) if algorithm[0].startswith("3-")]
+    return [compared(title_of(*algorithm), algorithm, [*range(241, 501), *comparison.edges(algorithm[2])], vector)
+            for vector in vectors for algorithm in algorithms]
 
 
-def compared(title, kind, asked, vector, requests=comparison.requests):
+def compared(title, algorithm, asked, vector, requests=comparison.requests):
     def ask(module):
         sides = {"the reference": lambda request: of_reference(request, module)}
-        equal, complaints = comparison.compare(sides, requests(*kind, asked))
+        equal, complaints = comparison.compare(sides, requests(*algorithm, asked))
         return f"{equal} requests, each one term", complaints
     first, last = min(asked), max(asked)
     return Task(f"{title}: {first} to {last} bytes", ask, vector)
@@ -92,16 +92,16 @@ def compared(title, kind, asked, vector, requests=comparison.requests):
 # ---- every length
 
 def induction(vectors, is_all):
-    yield from [shown(f"XXH{kind}, streams: any updates, to 2^64 - 1 bytes",
-                      functools.partial(plain_streams.show, kind=kind))
-                for kind in ("32", "64")]
+    yield from [shown(f"XXH{algorithm}, streams: any updates, to 2^64 - 1 bytes",
+                      functools.partial(plain_streams.show, algorithm=algorithm))
+                for algorithm in ("32", "64")]
     for vector in vectors:
-        for kind in every_length.KINDS:
-            if vector == vectors[0] or kind.startswith("3-"):
-                name, _, way = kind.partition(":")
+        for algorithm in every_length.ALGORITHMS:
+            if vector == vectors[0] or algorithm.startswith("3-"):
+                name, _, way = algorithm.partition(":")
                 called = f"XXH{name}, {way}" if way else f"XXH{name}"
-                title = f"{called}: every length from {every_length.shortest(kind)} to 2^64 - 1"
-                yield shown(title, functools.partial(every_length.show, kind=kind), vector)
+                title = f"{called}: every length from {every_length.shortest(algorithm)} to 2^64 - 1"
+                yield shown(title, functools.partial(every_length.show, algorithm=algorithm), vector)
         for place in xxh3_streams.PLACES if is_all else ():
             yield shown(f"XXH3, streams with a secret {place} of the state: any updates, to 2^63 - 1 bytes",
                         functools.partial(xxh3_streams.show, place=place), vector)
@@ -131,7 +131,7 @@ def of_changes(is_all, vector, headers):
     asked = {"asked by induction": header_mutants.CHANGES if is_all else header_mutants.CHANGES[::8],
              **({"streams of XXH3": header_mutants.DEAR} if is_all else {})}
     yield from (Task(f"changes of the header 0.8.1, {how}", judged(
-        lambda module, changed=changed: header_mutants.tell(changed), "queries")) for how, changed in asked.items())
+        lambda module, changed=changed: header_mutants.report(changed), "queries")) for how, changed in asked.items())
 
 
 def judged(find, what="changes"):
@@ -144,13 +144,13 @@ def judged(find, what="changes"):
 
 def text_changes(module, part, parts):
     found = mutation.of_text(module, part, parts)
-    reasons, by_induction = mutants.reasons(), [words for words, *_ in mutation.AT_LARGE_LENGTHS]
-    return told(found), faults(found, lambda text: reasons.of(text) or any(words in text for words in by_induction))
+    reasons, by_induction = mutants.reasons(), [pattern for pattern, *_ in mutation.AT_LARGE_LENGTHS]
+    return summary(found), faults(found, lambda text: reasons.of(text) or any(pattern in text for pattern in by_induction))
 
 
 def line_changes(module, sample, part, parts):
     found = mutation.of_reference(module, sample, part, parts)
-    return told(found), faults(found, Reasons(mutation.EQUAL_LINES).of)
+    return summary(found), faults(found, Reasons(mutation.EQUAL_LINES).of)
 
 
 def faults(found, reasons_of):
@@ -158,16 +158,16 @@ def faults(found, reasons_of):
     return [f"{what}: {text}" for what, text in found if is_fault(what, bool(reasons_of(text)), must_fit=False)]
 
 
-def told(found):
+def summary(found):
     return ", ".join(f"{count} {what}" for what, count in collections.Counter(what for what, _ in found).most_common())
 
 
 def header_is_the_one_named(headers, vector, _module):
     """Checks that the LLVM code is of the header with the printed checksum, even if compilers find another."""
-    with tempfile.TemporaryDirectory(prefix="symbolic-") as room:
-        with open(f"{room}/xxhash.h", "w", encoding="utf-8") as file:
+    with tempfile.TemporaryDirectory(prefix="symbolic-") as workdir:
+        with open(f"{workdir}/xxhash.h", "w", encoding="utf-8") as file:
             file.write('#error "another header"\n')
-        with unittest.mock.patch.dict(os.environ, CPATH=room, C_INCLUDE_PATH=room):
+        with unittest.mock.patch.dict(os.environ, CPATH=workdir, C_INCLUDE_PATH=workdir):
             beside_another = llvm_text(headers, vector)
     is_same = beside_another == llvm_text(headers, vector)
     return "another one is passed over", [] if is_same else ["with another header beside it the text is another"]

@@ -97,7 +97,7 @@ class Xxh3Streams(Proof):
     def state(self, b, j, f, runs):
         k = self.stripes(b, j)
         suppositions.clear()
-        accumulators = self.words_after(k, lambda i: self.after(i, k), 8, 64)
+        accumulators = self.symbols_after(k, lambda i: self.after(i, k), 8, 64)
         cells = self.numbers(b, j, f) + [(self.at["accumulators"] + 8 * i, 8, x) for i, x in enumerate(accumulators)]
         buffer = self.at["buffer"]
         return Memory("state", self.size, cells, [*self.secret_runs(), *runs], run_area=(buffer, buffer + BUFFER),
@@ -134,16 +134,16 @@ class Xxh3Streams(Proof):
             self.module.beside = BESIDE
             memory = self.state(*start, runs)
             self.module.live.append(memory)
-            self.module.loops.said[self.names.stripes] = self.of_stripes
+            self.module.loops.describers[self.names.stripes] = self.of_stripes
             if blocks:
-                self.module.loops.said.update(dict.fromkeys(self.names.update_blocks, blocks))
+                self.module.loops.describers.update(dict.fromkeys(self.names.update_blocks, blocks))
             if self.module.call("@XXH_INLINE_XXH3_128bits_update",
                                 [(memory, 0), (Piece(self.source, begun, length), 0), length]) != OK:
                 raise NotShown("an update answers an error")
             self.expect_some_stripes(start, end)
-            for more, wanted in expected:
+            for more, end_runs in expected:
                 with given(*more):
-                    self.expect_state("update", memory, *end, wanted)
+                    self.expect_state("update", memory, *end, end_runs)
         if len(nodes.NODES) > 100000:
             nodes.forget()
             self.seed, self.uses_seed = seed_symbol("3-64"), symbol("uses_seed", 32)
@@ -151,8 +151,8 @@ class Xxh3Streams(Proof):
 
     def update_by_ends(self, start, end, runs, facts, blocks=None):
         """Proves an update that overwrites bytes of the last stripe in the buffer, or none: both cases."""
-        for of_end, wanted in self.ends(*end):
-            self.update(start, end, runs, [([], wanted)], [*facts, *of_end], blocks)
+        for of_end, end_runs in self.ends(*end):
+            self.update(start, end, runs, [([], end_runs)], [*facts, *of_end], blocks)
 
     def expect_some_stripes(self, start, end):
         """Checks that at least four stripes were taken, if any."""
@@ -176,13 +176,13 @@ class Xxh3Streams(Proof):
 
     def loop(self, name, last, place, then=None):
         """Describes a loop of an update: after k iterations the accumulators are the words after place(k) stripes."""
-        def say(function, registers):
+        def describe(function, registers):
             memory = self.module.live[len(self.module.globals)]
             cells = cells_at((memory, self.at["accumulators"]))
             out = xxh3_loop(self.after, name, last, cells, place)
             out.then = then(function, registers) if then else None
             return out
-        return say
+        return describe
 
     def updates(self):
         self.small_pieces()
@@ -252,9 +252,9 @@ class Xxh3Streams(Proof):
             return times(self.q, plus(b, 1, k))
         if self.names is REFERENCE:
             return at_second_time(self.loop("an update's blocks", minus(variable("D"), 1), place))
-        say = self.loop("an update's blocks", blocks, place)
+        describe = self.loop("an update's blocks", blocks, place)
         return lambda function, registers: (
-            say(function, registers) if isinstance(registers.get(self.names.count), Poly) else None)
+            describe(function, registers) if isinstance(registers.get(self.names.count), Poly) else None)
 
     # ---- the same: release 0.8.1
 
@@ -289,9 +289,9 @@ class Xxh3Streams(Proof):
                 end = plus(b, 1), plus(4 - c, times(4, times_more)), h
                 behind = None if is_same_number(times_more, 0) else self.loop(
                     "four stripes behind", minus(M, 1), lambda k: plus(times(self.q, plus(b, 1)), 4 - c, times(4, k)))
-                say = self.loop("four stripes to the next block", K, lambda k: plus(first, times(4, k)), behind)
+                describe = self.loop("four stripes to the next block", K, lambda k: plus(first, times(4, k)), behind)
                 self.update_by_ends(start, end, self.buffered(*start),
-                                    [*facts, *of_more, *self.of_buffers(plus(K, 1, times_more))], say)
+                                    [*facts, *of_more, *self.of_buffers(plus(K, 1, times_more))], describe)
         self.use_stripes(whole)
 
     def starts_before_an_end(self):
@@ -404,18 +404,18 @@ class Xxh3Streams(Proof):
         """Returns the content of an empty state, whose secret is at `outside`, or inside if that is 0."""
         others = {"outside": outside, "limit": minus(secret_length, STRIPE),
                   "per_block": divided(minus(secret_length, STRIPE), 8)[0]}
-        kept = [cell for cell in self.numbers(0, 0, 0) if cell[0] not in [self.at[name] for name in others]]
+        cells = [cell for cell in self.numbers(0, 0, 0) if cell[0] not in [self.at[name] for name in others]]
         accumulators = [(self.at["accumulators"] + 8 * i, 8, self.after(i, 0)) for i in range(8)]
-        return kept + [(self.at[name], 8, x) for name, x in others.items()] + accumulators
+        return cells + [(self.at[name], 8, x) for name, x in others.items()] + accumulators
 
 
-def at_second_time(say):
-    """Returns a function that describes a loop like `say` when its head is reached again in one call."""
+def at_second_time(describe):
+    """Returns a function that describes a loop like `describe` when its head is reached again in one call."""
     seen = []
 
     def again(function, registers):
         if any(other is registers for other in seen):
-            return say(function, registers)
+            return describe(function, registers)
         seen.append(registers)
         return None
     return again

@@ -4,11 +4,11 @@ import itertools
 import types
 import unittest.mock
 
-from machine_code import coverage, xxh3_states, xxh3_updates
-from machine_code.memory import ENTRY, Stack, Words
-from machine_code.stripes import DEEP, TAKEN, WORDS, Part, Summary
-from machine_code.values import Names, address
-from symbolic_terms import LONGEST, Input, NotShown, given, minus, plus, same, variable
+from oracle.machine_code import coverage, xxh3_states, xxh3_updates
+from oracle.machine_code.memory import ENTRY, Stack, WordMemory
+from oracle.machine_code.stripes import DEEP, TAKEN, ACCUMULATOR_BYTES, Part, Summary
+from oracle.machine_code.values import Names, address
+from oracle.symbolic_terms import LONGEST, Input, NotShown, given, minus, plus, same, variable
 
 from . import processors
 from .values import expect, refuses
@@ -22,16 +22,16 @@ class Taken:
     arguments: words, begun, stripes, length, own or own_length."""
 
     def __init__(self, summary, first=2, turns=3, end=None, **changed):
-        self.supposed, self.summary, words = [], summary, [100 + i for i in range(8)]
+        self.supposed, self.summary, values = [], summary, [100 + i for i in range(8)]
         part = Part((0, first), turns, (0, first + turns if end is None else end))
         family = types.SimpleNamespace(
             parts=[part],
             stripes=lambda place: place[1],
-            words=lambda k: words,
+            values_after=lambda k: values,
             suppose=lambda *put: self.supposed.append(put),
         )
-        self.stack, source = Stack(), Words("other", TAKEN, alignment=8)
-        for i, x in enumerate([*changed.get("words", words), changed.get("begun", first)]):
+        self.stack, source = Stack(), WordMemory("other", TAKEN, alignment=8)
+        for i, x in enumerate([*changed.get("values", values), changed.get("begun", first)]):
             source.cells[8 * i] = 8, x
         self.to, at = (source, 0) if summary.is_in_place else (self.stack, FLOOR)
         records = [address(source)] if summary.is_in_place else [address(self.stack, at), address(source)]
@@ -45,9 +45,9 @@ class Taken:
             )
         ]
         summary.take(Names(), family, MESSAGE, SECRET, [*records, *arguments], self.stack, FLOOR)
-        self.words = [self.to.load(at + 8 * i, 8) for i in range(8)]
+        self.values = [self.to.load(at + 8 * i, 8) for i in range(8)]
         self.place = self.to.cells.get(at + 64, (8, None))[1]
-        expect(all(map(same, self.words, words)), turns == 0, "the words after a call")
+        expect(all(map(same, self.values, values)), turns == 0, "the words after a call")
 
 
 def taken_stripes(_):
@@ -56,9 +56,9 @@ def taken_stripes(_):
         first = 2 if has_place else 0
         for least in (0, 3):
             summary = Summary("take", has_place, least, is_in_place=is_in_place)
-            expect(summary.size, TAKEN if has_place else WORDS, "bytes of a record")
+            expect(summary.size, TAKEN if has_place else ACCUMULATOR_BYTES, "bytes of a record")
             done = Taken(summary, first)
-            expect(done.supposed == [(first + 3, done.words)], True, "the assumed words")
+            expect(done.supposed == [(first + 3, done.values)], True, "the assumed words")
             expect(done.place, first + 3, "the place") if has_place else None
         summary = Summary("take", has_place, 0, is_in_place=is_in_place)
         changes = [
@@ -71,8 +71,8 @@ def taken_stripes(_):
             {"own_length": 191},
             {"own": 5},
             {"stripes": 5},
-            {"words": [*range(100, 107), 0]},
-            {"words": [0, *range(101, 108)]},
+            {"values": [*range(100, 107), 0]},
+            {"values": [0, *range(101, 108)]},
             {"end": first + 4},
         ]
         for change in [*changes, *([{"begun": 3}, {"begun": 1}] if has_place else [])]:
@@ -105,8 +105,8 @@ def long_update(proof, case, is_lost, calls=1, is_long=None, seen=(), after=()):
 
 def whole_updates(_):
     """Tests that an update by a chunk that doesn't fit is one call, and only changes the total."""
-    for kind in (xxh3_states.OwnSecret, xxh3_states.CallersSecret):
-        proof = kind(processors.made())
+    for proof_class in (xxh3_states.OwnSecret, xxh3_states.CallersSecret):
+        proof = proof_class(processors.new_processor())
         total, count = {proof.at.total_bytes: (8, 7)}, {proof.at.count: (8, 1)}
         for (k, case), is_lost in itertools.product(enumerate(proof.long_pieces()), (False, True)):
             runs = 0 if is_lost and k < 2 else 2
@@ -130,8 +130,8 @@ def resets(_):
     class Asked(Exception):
         pass
 
-    for kind in (xxh3_states.OwnSecret, xxh3_states.CallersSecret):
-        proof, asked = kind(processors.made()), []
+    for proof_class in (xxh3_states.OwnSecret, xxh3_states.CallersSecret):
+        proof, asked = proof_class(processors.new_processor()), []
 
         def run(live, name, parts, *arguments, not_zero=(), asked=asked):
             asked.append((name, len(arguments), len(not_zero)))
@@ -149,7 +149,7 @@ def resets(_):
 
 def stack_of_calls(_):
     """Tests the bytes of stack that functions may use."""
-    proof = xxh3_states.Through(processors.made())
+    proof = xxh3_states.Through(processors.new_processor())
     for lowest, is_right in ((ENTRY - DEEP, True), (ENTRY - DEEP - 1, False)):
         proof.cpu.stack.lowest = lowest
         if is_right:

@@ -11,26 +11,26 @@ import re
 import tempfile
 import unittest.mock
 
-import same_bytes
-from machine_code import (any_secret, any_updates, calls, cargo_exports, cargo_streams, cargo_tasks,
-                          coverage, disabled_checks,
-                          disassembly, every_length, exports, instructions, long_seeds, object_contents, on_processor, one_shots, planted,
-                          planted_values, sources, streams,
-                          tasks, xxh3_states, xxh3_updates)
-from machine_code.cargo import CargoProcessor, CargoProgram
-from machine_code.grammar import expect_grammar
-from machine_code.instructions import V1, V2, V3, V4
-from machine_code import objects as program_objects
-from machine_code.objects import Program
-from machine_code.processor import Processor
-from machine_code.unwinding import expect_frames
-from symbolic_terms import REFUSALS, TOP, Request, comparison, definition, nodes, polynomials, variable
+from assembly import same_bytes
+from oracle.machine_code import (any_secret, any_updates, calls, cargo_exports, cargo_streams, cargo_tasks,
+                                 coverage, disabled_checks,
+                                 disassembly, every_length, exports, instructions, long_seeds, object_contents, on_processor, one_shots, planted,
+                                 planted_values, sources, streams,
+                                 tasks, xxh3_states, xxh3_updates)
+from oracle.machine_code.cargo import CargoProcessor, CargoProgram
+from oracle.machine_code.grammar import expect_grammar
+from oracle.machine_code.instructions import V1, V2, V3, V4
+from oracle.machine_code import objects as program_objects
+from oracle.machine_code.objects import Program
+from oracle.machine_code.processor import Processor
+from oracle.machine_code.unwinding import expect_frames
+from oracle.symbolic_terms import REFUSALS, TOP, Request, comparison, definition, nodes, polynomials, variable
 
 from . import edges, inductions, objects, processors, values
 from .values import Wrong
 
 # Where a check belongs: values, the processor, sources that must pass, planted files.
-Check = collections.namedtuple("Check", "title kind ask")
+Check = collections.namedtuple("Check", "title type ask")
 VALUES, BESIDE, RIGHT, PLANTED = "value", "processor", "right", "planted"
 GROUP = 12                        # instruction forms of a check
 C, CARGO = os.path.join(TOP, "c", "asm"), os.path.join(TOP, "rust", "asm")
@@ -86,12 +86,12 @@ def beside_processor(known, first):
     """Compares some instructions with the processor: their semantics, on the functions that were assembled before."""
     import ctypes
     library, program, lines, _ = known.snippets
-    cpu, draw = Processor(program, on_processor.processor_here()), random.Random(first)
+    cpu, rng = Processor(program, on_processor.processor_here()), random.Random(first)
     whole = ctypes.create_string_buffer(on_processor.SIZE + 64)
     state = (ctypes.c_ubyte * on_processor.SIZE).from_buffer(whole, -ctypes.addressof(whole) % 64)
     for number in range(first, min(first + GROUP, len(lines))):
         for _ in range(8):
-            data = on_processor.inputs(lines[number][0].split()[0], lines[number], draw)
+            data = on_processor.inputs(lines[number][0].split()[0], lines[number], rng)
             state[:] = data
             getattr(library, f"t{number}")(ctypes.byref(state))
             if bytes(state) != on_processor.by_table(cpu, number, lines[number], bytes(data)):
@@ -113,11 +113,11 @@ def expect_none(bad):
         raise Wrong(str(bad[0])[:200])
 
 
-def requests(known, name, kind, lengths, cuts=()):
+def requests(known, name, algorithm, lengths, cuts=()):
     side = streams if cuts else one_shots
     asked = []
     for n, own in [(n, list(own)) for n, *own in cuts] or [(n, None) for n in lengths]:
-        one = Request(kind[0], kind[1], n, kind[2], cuts=own)
+        one = Request(algorithm[0], algorithm[1], n, algorithm[2], cuts=own)
         asked += [one, *one.with_seed_0()]
     _, bad = comparison.compare({name: functools.partial(side.of_text, known.processor(name))}, asked)
     expect_none(bad)
@@ -127,8 +127,8 @@ def shown(result):
     expect_none(result[1])
 
 
-def of_updates(known, name, kind=any_updates.AnyUpdates, hash_name="64", has_ends=True):
-    proof = kind(known.processor(name), hash_name)
+def of_updates(known, name, proof_class=any_updates.AnyUpdates, hash_name="64", has_ends=True):
+    proof = proof_class(known.processor(name), hash_name)
     cases = [one for one in any_updates.updates(hash_name)]
     some = [cases[5], cases[-1], cases[len(cases) // 2], next(one for one in cases if one.more)]
     asked = [functools.partial(ask, one) for one in some for ask in (proof.update, proof.lost_total)]
@@ -168,17 +168,17 @@ def complete_cases(known):
     expect_none(any_updates.left_out("32") + any_updates.left_out("64"))
     for check in (tasks.plain_left_out, tasks.xxh3_left_out):
         shown(check())
-    for kind in ("32", "64", "3-64:seed"):
-        asked = every_length.cases(kind)
+    for algorithm in ("32", "64", "3-64:seed"):
+        asked = every_length.cases(algorithm)
         for k in (0, len(asked) // 2, len(asked) - 1):
-            period = 1024 if kind.startswith("3") else int(kind) // 2 * every_length.UNROLLED[kind]
+            period = 1024 if algorithm.startswith("3") else int(algorithm) // 2 * every_length.UNROLLED[algorithm]
             if not every_length.left_out(asked[:k] + asked[k + 1:], 1101, period):
                 raise Wrong("a case that isn't missed")
 
 
 def complete_updates(known):
-    for kind in xxh3_states.KINDS:
-        expect_none(list(coverage.left_out(kind(known.processor(V2)), 60)))
+    for proof_class in xxh3_states.PROOFS:
+        expect_none(list(coverage.left_out(proof_class(known.processor(V2)), 60)))
     proof = xxh3_states.Through(known.processor(V2))
     pieces = list(proof.all_updates())
     if not any(coverage.without_update(pieces[:67] + pieces[68:], proof, 300)):
@@ -189,14 +189,14 @@ def complete_updates(known):
     expect_none(list(coverage.without_one_shot(secrets.cases(), secrets.facts, 100)))
 
 
-def xxh3_cases(known, name, what, count, kind=xxh3_states.Through):
-    proof = kind(known.processor(name))
+def xxh3_cases(known, name, what, count, proof_class=xxh3_states.Through):
+    proof = proof_class(known.processor(name))
     shown(tasks.count_shown(proof, tasks.sample(what, proof.queries(what), count)))
 
 
-def lengths_of(known, name, kind, cases, seed=None):
-    asked = every_length.cases(kind)
-    shown(tasks.shown(lambda: known.processor(name), kind, [asked[k] for k in cases], seed))
+def lengths_of(known, name, algorithm, cases, seed=None):
+    asked = every_length.cases(algorithm)
+    shown(tasks.shown(lambda: known.processor(name), algorithm, [asked[k] for k in cases], seed))
 
 
 def of_any_secret(known, name):
@@ -208,11 +208,11 @@ def right_checks(known):
     """Yields the checks of committed sources."""
     def one(title, ask, *arguments, **more):
         return Check(title, RIGHT, functools.partial(ask, known, *arguments, **more))
-    for kind in comparison.kinds((136,)):
-        yield one(f"one-shots of {comparison.title_of(*kind)}", requests, V2, kind, LENGTHS)
-    for kind in (("32", "seed", None), ("64", "seed", None), ("3-64", "seed", None), ("3-128", "both", 136)):
-        yield one(f"streams of {comparison.title_of(*kind)}", requests, V2, kind, (), CUTS)
-        yield one(f"x86-64-v3, {comparison.title_of(*kind)}", requests, V3, kind, (5, 40, 150, 300))
+    for algorithm in comparison.algorithms((136,)):
+        yield one(f"one-shots of {comparison.title_of(*algorithm)}", requests, V2, algorithm, LENGTHS)
+    for algorithm in (("32", "seed", None), ("64", "seed", None), ("3-64", "seed", None), ("3-128", "both", 136)):
+        yield one(f"streams of {comparison.title_of(*algorithm)}", requests, V2, algorithm, (), CUTS)
+        yield one(f"x86-64-v3, {comparison.title_of(*algorithm)}", requests, V3, algorithm, (5, 40, 150, 300))
     yield one("x86-64-v4", requests, V4, ("3-64", "secret", 192), (300, 1100))
     for name, count, call in [*calls.OTHERS, *calls.SHORT_SECRETS]:
         yield Check(name, RIGHT, lambda call=call, count=count: expect_count(call(known.processor(V2)), count))
@@ -221,21 +221,21 @@ def right_checks(known):
     yield Check("a state without a run", RIGHT, lambda: inductions.lost_runs(known.processor(V2)))
     yield Check("the last stripe in a buffer", RIGHT, lambda: inductions.last_stripes(known.processor(V2)))
     yield Check("places of x86-64-v4", RIGHT, lambda: inductions.places_of_v4(known.processor(V4)))
-    yield Check("secrets of 2^32 bytes", RIGHT, lambda: long_seeds.made_secrets(known.processor(V2),
+    yield Check("secrets of 2^32 bytes", RIGHT, lambda: long_seeds.generated_secrets(known.processor(V2),
                                                                 tasks.OF_LONG_SEEDS))
     yield one("cargo: long inputs", requests, "cargo", ("3-64", "secret", 136), (241, 300, 700))
     yield one("updates of XXH64", of_updates, V2)
     yield Check("a task of updates", RIGHT, lambda: shown(tasks.any_streams(lambda: known.processor(V2), "32", None, 3000, True)))
     yield one("updates of XXH32", of_updates, V2, hash_name="32")
     yield one("cargo: chunks of XXH32", of_updates, "cargo", hash_name="32", has_ends=False)
-    for kind in xxh3_states.KINDS:
-        for what in kind.KINDS:
-            yield one(f"{kind.TITLE}: {what}", xxh3_cases, V2, what, 2 if what == xxh3_updates.STRIPES else 6, kind=kind)
+    for proof_class in xxh3_states.PROOFS:
+        for what in proof_class.TASKS:
+            yield one(f"{proof_class.TITLE}: {what}", xxh3_cases, V2, what, 2 if what == xxh3_updates.STRIPES else 6, proof_class=proof_class)
     yield one("XXH3 by x86-64-v4", xxh3_cases, V4, xxh3_updates.STRIPES, 2)
-    for kind in cargo_streams.KINDS:
-        yield one(f"cargo: {kind.TITLE}", xxh3_cases, "cargo", xxh3_updates.UPDATES, 4, kind=kind)
-    for kind, cases in (("64", (0, 40)), ("32", (0, 77)), ("3-64:seed", (0, 1)), ("3-128:default", (3, 30))):
-        yield one(f"every length of XXH{kind}", lengths_of, V2, kind, cases)
+    for proof_class in cargo_streams.PROOFS:
+        yield one(f"cargo: {proof_class.TITLE}", xxh3_cases, "cargo", xxh3_updates.UPDATES, 4, proof_class=proof_class)
+    for algorithm, cases in (("64", (0, 40)), ("32", (0, 77)), ("3-64:seed", (0, 1)), ("3-128:default", (3, 30))):
+        yield one(f"every length of XXH{algorithm}", lengths_of, V2, algorithm, cases)
     yield one("every length with the seed 0", lengths_of, V3, "3-64:seed", (5,), seed=0)
     yield one("any secret", of_any_secret, V2)
     yield Check("any length to 240 bytes", RIGHT, lambda: shown(tasks.count_shown(*of_short(known))))
@@ -276,7 +276,7 @@ def refused(one):
     try:
         one.ask()
     except REFUSALS as error:
-        if not re.search(one.words, str(error)):
+        if not re.search(one.message, str(error)):
             raise Wrong(f"{one.title}: refused for another reason: {error}"[:300])
         return
     raise Wrong(f"{one.title}: not refused")

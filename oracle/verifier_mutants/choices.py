@@ -8,7 +8,7 @@ import re
 import types
 import unittest.mock
 
-from machine_code import (
+from oracle.machine_code import (
     any_secret,
     any_updates,
     calls,
@@ -22,9 +22,9 @@ from machine_code import (
     xxh3_states,
     xxh3_updates,
 )
-from machine_code.cargo import CargoProgram
-from machine_code.xxh3_updates import EMPTY
-from symbolic_terms import (
+from oracle.machine_code.cargo import CargoProgram
+from oracle.machine_code.xxh3_updates import EMPTY
+from oracle.symbolic_terms import (
     LONGEST,
     REFUSALS,
     NotShown,
@@ -100,9 +100,9 @@ def outcomes(_):
         (4, ["a fault"], False),
         (2, ["a fault"], False),
     ):
-        told, faults = tasks.counted("a task", 3, lambda count=count, bad=bad: (count, bad)).ask()
+        message, faults = tasks.counted("a task", 3, lambda count=count, bad=bad: (count, bad)).ask()
         expect(not faults, is_right, f"a task with {count} cases")
-        expect(told == f"{count} cases" and (not bad or faults == bad), True, "the output of a task")
+        expect(message == f"{count} cases" and (not bad or faults == bad), True, "the output of a task")
 
 
 def processors_of(_):
@@ -154,7 +154,7 @@ def parts_of_updates(_):
     for hash_name, has_ends in (("32", True), ("32", False), ("64", True)):
         asked, cases = [], list(any_updates.updates(hash_name))
 
-        def kind(*_, asked=asked):
+        def proof_class(*_, asked=asked):
             return types.SimpleNamespace(
                 update=lambda one: asked.append(one),
                 lost_total=lambda one: asked.append(("lost", one)),
@@ -164,10 +164,10 @@ def parts_of_updates(_):
 
         ends = ["reset", *((a, r) for r in range(int(hash_name) // 2) for a in (0, variable("a")))] if has_ends else []
         for part in range(tasks.UPDATE_PARTS):
-            tasks.any_streams(lambda: None, hash_name, part, None, has_ends, kind)
+            tasks.any_streams(lambda: None, hash_name, part, None, has_ends, proof_class)
         asked_once(asked, [*cases, *(("lost", one) for one in cases), *ends], f"updates of XXH{hash_name}")
         asked.clear()
-        count, _ = tasks.any_streams(lambda: None, hash_name, None, 300, has_ends, kind)
+        count, _ = tasks.any_streams(lambda: None, hash_name, None, 300, has_ends, proof_class)
         asked_once(
             asked, [*cases[::300], *(("lost", one) for one in cases[::300]), *ends], f"some updates of XXH{hash_name}"
         )
@@ -178,12 +178,12 @@ def cases_of_lengths(_):
     """Tests that tasks of lengths ask each of their cases, and tasks of requests each request of each source."""
     asked = []
 
-    def made(_, kind):
+    def new_proof(_, algorithm):
         return types.SimpleNamespace(
-            show=lambda *case: asked.append((kind, *case)), show_short=lambda n: asked.append((kind, n))
+            show=lambda *case: asked.append((algorithm, *case)), show_short=lambda n: asked.append((algorithm, n))
         )
 
-    with patched(every_length, "EveryLength", made):
+    with patched(every_length, "EveryLength", new_proof):
         expect(tasks.up_to_240(lambda: None, "a")[0], 241, "short lengths")
         expect(tasks.shown(lambda: None, "b", [3, 4, 5], 7)[0], 3, "lengths")
     asked_once(asked, [*(("a", n) for n in range(241)), *(("b", k, 7) for k in (3, 4, 5))], "lengths")
@@ -212,10 +212,10 @@ def shown_cases(_):
     expect(len(forgotten), 1, "times that terms are forgotten")
 
 
-def told(_):
+def messages(_):
     """Tests that tasks of completeness report what is left out."""
     expect(
-        tasks.told_left_out({"a": [], "b": [1, 2], "c": [*range(9)]})
+        tasks.report_left_out({"a": [], "b": [1, 2], "c": [*range(9)]})
         == (3, ["b: no task has [1, 2]", "c: no task has [0, 1, 2, 3, 4]"]),
         True,
         "what is left out",
@@ -255,7 +255,7 @@ def members(case, most):
     return found
 
 
-def missed_lengths(draw):
+def missed_lengths(rng):
     """Compares the lengths that no case has with all lengths, for cases with any number of turns, some, or none."""
     turns, t, period, first, most = variable(every_length.TURNS), variable("t"), 8, 10, 30
     some = [every_length.Case(plus(times(period, turns), k), 0, [minus(turns, 2)], {}) for k in range(8)]
@@ -270,7 +270,7 @@ def missed_lengths(draw):
         every_length.Case(13, 0, [], {}),
     ]
     for _ in range(60):
-        found = draw.sample(some, draw.randrange(1, len(some)))
+        found = rng.sample(some, rng.randrange(1, len(some)))
         there = set().union(*(members(case, most) for case in found))
         left, gaps = every_length.left_out(found, first, period), []
         for rest in range(period):
@@ -308,7 +308,7 @@ def each_update(_):
 
 def proved_updates(_):
     """Tests the stripes and facts of each update's proof, also with a total that becomes 2^64 - 1."""
-    proof, asked = any_updates.AnyUpdates(processors.made(), "64"), []
+    proof, asked = any_updates.AnyUpdates(processors.new_processor(), "64"), []
     proof.update_between = lambda *of: asked.append(of)
     a, d = variable("a"), variable("d")
     for one in any_updates.updates("64"):
@@ -339,8 +339,8 @@ def edges_of_blocks(_):
 def queries(_):
     """Tests that each kind of proof asks all of its cases: of chunks, resets, digests and stripes."""
     small, large = ("start", "end", 5, []), ("start", "end", 700, [], "parts")
-    for kind in (*xxh3_states.KINDS, *cargo_streams.KINDS):
-        proof = kind(processors.made())
+    for proof_class in (*xxh3_states.PROOFS, *cargo_streams.PROOFS):
+        proof = proof_class(processors.new_processor())
         proof.all_updates, proof.long_pieces = lambda: iter([small, large, small]), lambda: iter(
             [("first",), ("second",)]
         )
@@ -359,30 +359,30 @@ def queries(_):
             + [("digest", "d", k, has_seed, width) for k in (1, 2) for has_seed in (0, 1) for width in ("64", "128")],
             xxh3_updates.STRIPES: [("taken_of", "t", 1), ("taken_of", "t", 2)],
         }
-        for what in kind.KINDS:
+        for what in proof_class.TASKS:
             found = [
                 (ask.func.__name__, *ask.args) if hasattr(ask, "func") else (ask.__name__,)
                 for ask in proof.queries(what)
             ]
-            asked_once(found, expected[what], f"{kind.TITLE}: {what}")
-    for kind, count in ((xxh3_states.OwnSecret, 8), (xxh3_states.CallersSecret, 4)):
-        expect(len({*map(repr, kind(processors.made()).resets())}), count, "resets")
+            asked_once(found, expected[what], f"{proof_class.TITLE}: {what}")
+    for proof_class, count in ((xxh3_states.OwnSecret, 8), (xxh3_states.CallersSecret, 4)):
+        expect(len({*map(repr, proof_class(processors.new_processor()).resets())}), count, "resets")
 
 
 def chunks(_):
     """Tests that each chunk is in a case of the proofs of whole updates, whether it fits in the buffer or not."""
-    for kind in (xxh3_states.CallersSecret, xxh3_states.OwnSecret, cargo_streams.CargoUpdates):
-        proof = kind(processors.made())
+    for proof_class in (xxh3_states.CallersSecret, xxh3_states.OwnSecret, cargo_streams.CargoUpdates):
+        proof = proof_class(processors.new_processor())
         small = [(*start[0], start[1], length, facts) for start, _, length, facts in proof.all_updates()]
         large = [(*place, f, length, facts) for place, f, length, facts, _ in proof.long_pieces()]
         for q, u, b, j, f, L in coverage.points(150, proof):
-            is_small = f + L <= proof.room
-            point = {**coverage.variables(q, u, b, j, f, L), **({} if is_small else {"n": L - (proof.room + 1 - f)})}
+            is_small = f + L <= proof.capacity
+            point = {**coverage.variables(q, u, b, j, f, L), **({} if is_small else {"n": L - (proof.capacity + 1 - f)})}
             if not any(
                 coverage.has(point, [*facts, *proof.facts], [*zip(case, (b, j, f, L))])
                 for *case, facts in (small if is_small else large)
             ):
-                raise Wrong(f"{kind.TITLE}: no case has {(q, u, b, j, f, L)}")
+                raise Wrong(f"{proof_class.TITLE}: no case has {(q, u, b, j, f, L)}")
         for *_, length, facts, is_long in proof.long_pieces():
             with given(*proof.facts, *facts):
                 expect(length >= xxh3_updates.LONG_PIECE, is_long, "a chunk that a separate function takes")
@@ -410,8 +410,8 @@ def starts_of_updates(_):
 
 def digests(_):
     """Tests that each state has a digest's case: each number of bytes to 240, and points with stripes."""
-    for kind in (xxh3_states.OwnSecret, xxh3_states.CallersSecret):
-        proof = kind(processors.made())
+    for proof_class in (xxh3_states.OwnSecret, xxh3_states.CallersSecret):
+        proof = proof_class(processors.new_processor())
         cases = list(proof.digests())
         short = [f for place, f, *_ in cases if is_same_number(place[0], 0) and isinstance(f, int)]
         expect(short == [*range(241)], True, "short messages")
@@ -422,8 +422,8 @@ def digests(_):
 
 def whole_digests(_):
     """Tests that the stripes of a digest's buffer begin at its state's place and end where they should."""
-    for kind in (xxh3_states.OwnSecret, xxh3_states.CallersSecret):
-        proof = kind(processors.made())
+    for proof_class in (xxh3_states.OwnSecret, xxh3_states.CallersSecret):
+        proof = proof_class(processors.new_processor())
         for place, f, facts, stripes in proof.digests():
             for part in stripes:
                 expect(all(map(is_same_number, place, part.start)), True, f"the place of {part}")
@@ -431,9 +431,9 @@ def whole_digests(_):
                 expect(is_same_number(proof.stripes(part.end), end), True, f"the end of {part}")
 
 
-def kinds_of_pieces(_):
+def cases_of_chunks(_):
     """Tests that all updates are those by chunks that fit, and by others that take no stripes, some or many."""
-    proof = xxh3_states.Through(processors.made())
+    proof = xxh3_states.Through(processors.new_processor())
     proof.small_pieces = lambda: iter(["small"])
     proof.pieces = lambda to, begin, lefts: iter([(to, any(one is EMPTY for one in begin))])
     found = list(proof.all_updates())
@@ -445,26 +445,26 @@ def short_secrets(_):
     asked = []
 
     def one_shot(_, request):
-        asked.append((request.kind, request.length))
+        asked.append((request.variant, request.length))
 
     with patched(calls.one_shots, "of_text", one_shot), patched(calls, "expect", lambda *_: None), patched(
         Request, "of_definition", lambda *_: 0
     ):
-        expect(calls.short_secrets(processors.made(), "3-64"), 243, "calls")
+        expect(calls.short_secrets(processors.new_processor(), "3-64"), 243, "calls")
     n = variable("n")
     asked_once(asked, [("secret", n), ("both", plus(n, 241)), *(("both", k) for k in range(241))], "short secrets")
 
 
 def refused_secrets(_):
     """Tests that a generated secret needs the code of success."""
-    proof = long_seeds.LongSeeds(processors.made())
+    proof = long_seeds.LongSeeds(processors.new_processor())
     proof.proved = lambda *_: (1, 0)
     refuses(lambda: proof.show(137), "a refused secret", (Unsupported,))
 
 
 def several_updates(_):
     """Tests that an update is also proved with totals and counts of stripes that become 2^64 - 1."""
-    proof, asked = xxh3_updates.Xxh3Updates(processors.made()), []
+    proof, asked = xxh3_updates.Xxh3Updates(processors.new_processor()), []
     proof.update = lambda *case, lost=(): asked.append((case, lost))
     part, none, lost = xxh3_updates.Part(0, 5, 5), xxh3_updates.Part(5, 0, 5), variable("lost")
     of_total = [([at_most(lost, 69)], {proof.at.total_bytes: minus(LONGEST, lost)})]
@@ -485,7 +485,7 @@ def several_updates(_):
 
 def points(_):
     """Tests that the points at which completeness is tested have each edge: of blocks, places, buffers and chunks."""
-    proof = types.SimpleNamespace(q=None, longest_secret=1 << 60, longest_piece=1 << 41, room=512, whole=8)
+    proof = types.SimpleNamespace(q=None, longest_secret=1 << 60, longest_piece=1 << 41, capacity=512, whole=8)
     found = list(coverage.points(3000, proof))
     expect(len(found), 3000, "points")
     for q, u, b, j, f, L in found:
@@ -575,7 +575,7 @@ def copied_states(_):
         (lambda *_: None, False),
         (lambda to, source: copy(to, source) or source.place()[0].store(8, 8, 5), False),
     ):
-        cpu = processors.made()
+        cpu = processors.new_processor()
         cpu.call = lambda _, *places, call=call: call(*places)
         expect(calls.copies(cpu), 3, "copies") if is_right else refuses(
             lambda: calls.copies(cpu), "a wrong copy", REFUSALS
@@ -601,7 +601,7 @@ def ends_of_streams(_):
 
 def nothing_supposed(_):
     """Tests that a proof begins without the hypotheses of another one."""
-    cpu = processors.made()
+    cpu = processors.new_processor()
     whole, plain = xxh3_states.OwnSecret(cpu), any_updates.AnyUpdates(cpu, "64")
     plain.begin(100)
     for begin in (
@@ -645,7 +645,7 @@ ALL = [
     parts_of_updates,
     cases_of_lengths,
     shown_cases,
-    told,
+    messages,
     missed_lengths,
     each_update,
     proved_updates,
@@ -655,7 +655,7 @@ ALL = [
     starts_of_updates,
     digests,
     whole_digests,
-    kinds_of_pieces,
+    cases_of_chunks,
     several_updates,
     points,
     chunks_of_refusals,

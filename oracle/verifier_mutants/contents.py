@@ -4,12 +4,12 @@ import struct
 import types
 import unittest.mock
 
-import same_bytes
-from machine_code import cargo, cargo_exports, exports, object_contents, unwinding
-from machine_code.object_contents import CODE, CONSTANTS, INFO, MERGEABLE, NOBITS, PROGBITS, SHADOW_STACK, WRITTEN
-from machine_code.objects import Register
-from same_bytes import NONE, NOTE, RELA, STRTAB, SYMTAB
-from symbolic_terms import NotShown, Unsupported
+from assembly import same_bytes
+from oracle.machine_code import cargo, cargo_exports, exports, object_contents, unwinding
+from oracle.machine_code.object_contents import CODE, CONSTANTS, INFO, MERGEABLE, NOBITS, PROGBITS, SHADOW_STACK, WRITTEN
+from oracle.machine_code.objects import Register
+from assembly.same_bytes import NONE, NOTE, RELA, STRTAB, SYMTAB
+from oracle.symbolic_terms import NotShown, Unsupported
 
 from .processors import instruction
 from .values import expect, refuses
@@ -48,12 +48,12 @@ F, G, LABEL, MEMCPY = 1, 2, 3, 5
 EXPORT = 1, 0  # binding and visibility
 
 
-def note(*properties, kind=5, name=b"GNU\0"):
+def note(*properties, note_type=5, name=b"GNU\0"):
     content = b"".join(struct.pack("<IIII", *one, 0) for one in properties)
-    return struct.pack("<III", len(name), len(content), kind) + name + content
+    return struct.pack("<III", len(name), len(content), note_type) + name + content
 
 
-def made(sections=SECTIONS, symbols=SYMBOLS, notes=note((0xC0000002, 4, 2)), system=(1, 0, 0), flags=0, machine=62):
+def new_object(sections=SECTIONS, symbols=SYMBOLS, notes=note((0xC0000002, 4, 2)), system=(1, 0, 0), flags=0, machine=62):
     heads, names = (
         [types.SimpleNamespace(**dict(zip(fields, one))) for one in some]
         for some, fields in ((sections, FIELDS), (symbols, PARTS))
@@ -74,12 +74,12 @@ def with_field(some, fields, k, **changed):
 
 def sections(_):
     """Changes each field of each section."""
-    listed(made())
-    for k, (name, kind, flags, size, align, entry, link, _) in enumerate(SECTIONS):
+    listed(new_object())
+    for k, (name, section_type, flags, size, align, entry, link, _) in enumerate(SECTIONS):
         changes = [
             {"name": ".init"},
             {"name": name + "é"},
-            {"kind": kind + 20},
+            {"kind": section_type + 20},
             {"flags": flags ^ 1},
             {"flags": flags ^ 4},
             {"flags": flags | 0x200},
@@ -95,20 +95,20 @@ def sections(_):
             {"info": 6 if name == ".rela.text.f" else 2},
             {"link": link + 1},
             {"link": 2},
-        ] * (kind == RELA)
+        ] * (section_type == RELA)
         for change in changes:
             refuses(
-                lambda: listed(made(with_field(SECTIONS, FIELDS, k, **change))), f"{name} with {change}", Unsupported
+                lambda: listed(new_object(with_field(SECTIONS, FIELDS, k, **change))), f"{name} with {change}", Unsupported
             )
-    refuses(lambda: listed(made([*SECTIONS, SECTIONS[5]])), "two sections of one name", Unsupported)
-    refuses(lambda: listed(made([*SECTIONS, (".text.h", *SECTIONS[2][1:])])), "code without a function", Unsupported)
+    refuses(lambda: listed(new_object([*SECTIONS, SECTIONS[5]])), "two sections of one name", Unsupported)
+    refuses(lambda: listed(new_object([*SECTIONS, (".text.h", *SECTIONS[2][1:])])), "code without a function", Unsupported)
     stack = [one[0] for one in SECTIONS].index(".note.GNU-stack")
     refuses(
-        lambda: listed(made(with_field(SECTIONS, FIELDS, stack, name=".bss.x"))), "a stack that may be run", Unsupported
+        lambda: listed(new_object(with_field(SECTIONS, FIELDS, stack, name=".bss.x"))), "a stack that may be run", Unsupported
     )
     for system in ((2, 0, 0), (1, 3, 0), (1, 0, 1)):
-        refuses(lambda: listed(made(system=system)), f"an object for the system {system}", Unsupported)
-    refuses(lambda: listed(made(flags=1)), "an object with flags", Unsupported)
+        refuses(lambda: listed(new_object(system=system)), f"an object for the system {system}", Unsupported)
+    refuses(lambda: listed(new_object(flags=1)), "an object with flags", Unsupported)
 
 
 def symbols(_):
@@ -141,23 +141,23 @@ def symbols(_):
     ):
         for change in changes:
             refuses(
-                lambda: listed(made(symbols=with_field(SYMBOLS, PARTS, k, **change))),
+                lambda: listed(new_object(symbols=with_field(SYMBOLS, PARTS, k, **change))),
                 f"{SYMBOLS[k][0]} with {change}",
                 Unsupported,
             )
     for change in ({"value": 0}, {"value": 7}, {"section": 5, "value": 4}):
-        listed(made(symbols=with_field(SYMBOLS, PARTS, LABEL, **change)))
+        listed(new_object(symbols=with_field(SYMBOLS, PARTS, LABEL, **change)))
     for name in ("memmove", "memset"):
-        listed(made(symbols=with_field(SYMBOLS, PARTS, MEMCPY, name=name)))
-    refuses(lambda: listed(made(symbols=[*SYMBOLS, SYMBOLS[F]])), "two functions of one section", Unsupported)
-    refuses(lambda: listed(made(symbols=[*SYMBOLS[:G], *SYMBOLS[G + 1 :]])), "code without a function", Unsupported)
+        listed(new_object(symbols=with_field(SYMBOLS, PARTS, MEMCPY, name=name)))
+    refuses(lambda: listed(new_object(symbols=[*SYMBOLS, SYMBOLS[F]])), "two functions of one section", Unsupported)
+    refuses(lambda: listed(new_object(symbols=[*SYMBOLS[:G], *SYMBOLS[G + 1 :]])), "code without a function", Unsupported)
 
 
 def properties(_):
     """Changes the note of properties."""
     shadow, used = (0xC0000002, 4, 2), (0xC0010002, 4, 1)
     for right in (note(shadow), note(shadow, used), note(used, shadow)):
-        listed(made(notes=right))
+        listed(new_object(notes=right))
     for wrong in (
         b"",
         note(),
@@ -166,31 +166,31 @@ def properties(_):
         note((0xC0000002, 4, 0)),
         note(shadow, (0xC0008002, 4, 1)),
         note((0xC0008002, 4, 1), shadow),
-        note(shadow, kind=4),
+        note(shadow, note_type=4),
         note(shadow, name=b"GNV\0"),
         note(shadow) * 2,
         note((0xC0000001, 4, 2)),
         struct.pack("<III", 4, 20, 5) + b"GNU\0" + struct.pack("<IIIII", *shadow[:1], 12, 2, 0, 0) + bytes(4),
     ):
-        refuses(lambda: listed(made(notes=wrong)), f"the note {wrong.hex()}", (Unsupported, struct.error))
-    refuses(lambda: listed(made(machine=183)), "a note for ARM", Unsupported)
+        refuses(lambda: listed(new_object(notes=wrong)), f"the note {wrong.hex()}", (Unsupported, struct.error))
+    refuses(lambda: listed(new_object(machine=183)), "a note for ARM", Unsupported)
     expect(SHADOW_STACK == note(shadow)[16:28], True, "the property")
 
 
 def loaded_sections(_):
     """Tests which sections of an object are compared byte for byte."""
-    whole = types.SimpleNamespace(heads=made().heads)
+    whole = types.SimpleNamespace(heads=new_object().heads)
     found = [head.name for head in same_bytes.Object.loaded(whole)]
     expect(found == [".text.f", ".rodata.cst16", ".rodata", ".text.g"], True, "loaded sections")
 
 
 def relocations(_):
     """Tests the targets of relocations, in which assemblers differ: calls of local names, and mergeable sections."""
-    whole = types.SimpleNamespace(heads=made().heads, symbols=made().symbols)
+    whole = types.SimpleNamespace(heads=new_object().heads, symbols=new_object().symbols)
     local, label, section = G, LABEL, 4
     whole.symbols.append(types.SimpleNamespace(name="c", info=0x01, other=0, section=4, value=16, size=16))
     whole.symbols.append(types.SimpleNamespace(name="", info=0x03, other=0, section=4, value=0, size=0))
-    for machine, symbol, kind, expected in (
+    for machine, symbol, r_type, expected in (
         (62, F, 4, (5, 4, "f", 0, -4)),
         (62, local, 4, (5, 2, ".text.g", -4, 0)),
         (62, local, 2, (5, 2, ".text.g", -4, 0)),
@@ -201,8 +201,8 @@ def relocations(_):
         (62, 7, 2, (5, 2, ".rodata.cst16", -4, 0)),
     ):
         whole.machine = machine
-        found = same_bytes.Object.relocation(whole, 5, symbol << 32 | kind, -4)
-        expect(found == expected, True, f"a relocation of kind {kind} to {symbol}: {found}")
+        found = same_bytes.Object.relocation(whole, 5, symbol << 32 | r_type, -4)
+        expect(found == expected, True, f"a relocation of kind {r_type} to {symbol}: {found}")
 
 
 def names(_):
@@ -213,7 +213,7 @@ def names(_):
         (".weird", PROGBITS, 0, 9, 1, 0, 0, 0),
         (".rel", 9, 0, 9, 8, 0, 0, 0),
     ]
-    whole = made(other, [*SYMBOLS, ("_GLOBAL_OFFSET_TABLE_", 0x10, 0, 0, 0, 0)])
+    whole = new_object(other, [*SYMBOLS, ("_GLOBAL_OFFSET_TABLE_", 0x10, 0, 0, 0, 0)])
     whole.place = lambda symbol: same_bytes.Object.place(whole, symbol)
     head, _, found = same_bytes.Object.names(whole, ["a", "b"])
     expect(head == (62, 0, bytes((1, 0, 0)), ["a", "b"]), True, "the head of an object")

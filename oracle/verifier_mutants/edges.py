@@ -6,15 +6,15 @@ import struct
 import types
 import unittest.mock
 
-import antt
-from machine_code import disassembly, flags, instructions, object_contents, scalar, stream_state, unwinding, whole_blocks
-from machine_code.instructions import TABLE
-from machine_code.memory import Words
-from machine_code.objects import Immediate, Place, Register
-from machine_code.values import address, arithmetic
-from symbolic_terms import (Request, Unsupported, at_most, comparison, definition, given, is_same_number, minus, nodes, operations,
-                            plus, polynomials, rules, symbol, times, variable)
-from symbolic_terms.induction import Induction
+from oracle import antt
+from oracle.machine_code import disassembly, flags, instructions, object_contents, scalar, stream_state, unwinding, whole_blocks
+from oracle.machine_code.instructions import TABLE
+from oracle.machine_code.memory import WordMemory
+from oracle.machine_code.objects import Immediate, Place, Register
+from oracle.machine_code.values import address, arithmetic
+from oracle.symbolic_terms import (Request, Unsupported, at_most, comparison, definition, given, is_same_number, minus, nodes, operations,
+                                   plus, polynomials, rules, symbol, times, variable)
+from oracle.symbolic_terms.induction import Induction
 
 from . import processors
 from .values import Wrong, expect, refuses, value_of
@@ -29,11 +29,11 @@ def jumps(_):
     """Tests the required bytes of jumps at the ends of the short form."""
     for mnemonic in SHORT:
         for distance, is_short in ((-128, True), (127, True), (-129, False), (128, False)):
-            made = disassembly.led_on_x86(AT, bytes(SIZE), f"{mnemonic} {AT + SIZE + distance:x}", False)
+            actual = disassembly.led_on_x86(AT, bytes(SIZE), f"{mnemonic} {AT + SIZE + distance:x}", False)
             opcode, size = (SHORT, "<b") if is_short else (LONG, "<i")
-            wanted = opcode[mnemonic] + struct.pack(size, distance)
-            if made != wanted:
-                raise Wrong(f"{mnemonic} over {distance} bytes: {made.hex()} and not {wanted.hex()}")
+            expected = opcode[mnemonic] + struct.pack(size, distance)
+            if actual != expected:
+                raise Wrong(f"{mnemonic} over {distance} bytes: {actual.hex()} and not {expected.hex()}")
 
 
 def jumps_of_arm(_):
@@ -41,8 +41,8 @@ def jumps_of_arm(_):
     for at, text, word in ((0, "b 8 <f>", 0x14000002), (8, "bl 4", 0x97FFFFFF), (0, "b.ne 10", 0x54000081),
                            (0, "cbz x3, 8", 0xB4000043), (8, "cbnz w5, 4", 0x35FFFFE5), (0, "tbz w1, #3, c", 0x36180061),
                            (16, "tbnz x2, #33, 8", 0xB70FFFC2)):
-        made = disassembly.led_on_arm(at, b"", text, False)
-        expect(int.from_bytes(made, "little"), word, text)
+        actual = disassembly.led_on_arm(at, b"", text, False)
+        expect(int.from_bytes(actual, "little"), word, text)
     for text, word in (("bl 0", 0x94000000), ("adrp x7, 0", 0x90000007)):
         expect(int.from_bytes(disassembly.led_on_arm(4, b"", text, True), "little"), word, f"{text}, which is relocated")
     expect(int.from_bytes(disassembly.led_on_arm(4, b"", "adrp x7, 0", False), "little"), 0, "an address without a relocation")
@@ -60,7 +60,7 @@ def narrow_sums(_):
     n, x = variable("n"), processors.instruction("add", Immediate(1), Register("eax"))
     with given(at_most(n, (1 << 32) - 1)):
         for is_small in (True, False):
-            cpu = processors.made()
+            cpu = processors.new_processor()
             cpu.registers["rax"] = n
             with given(at_most(n, 5)) if is_small else contextlib.nullcontext():
                 TABLE["add", "il"][1](cpu, x)
@@ -69,7 +69,7 @@ def narrow_sums(_):
 
 def lost_flags(_):
     """Tests that no condition holds after a shift that takes bits of another register."""
-    cpu, x = processors.made(), processors.instruction("shld", Immediate(4), Register("rax"), Register("rbx"))
+    cpu, x = processors.new_processor(), processors.instruction("shld", Immediate(4), Register("rax"), Register("rbx"))
     cpu.set_flags("logic", 64, 0, 0, 1)
     TABLE["shld", "iqq"][1](cpu, x)
     refuses(lambda: cpu.condition("e"), "a condition after shld")
@@ -110,28 +110,28 @@ def sections(_):
     for section in (1, 2):
         named = types.SimpleNamespace(name="f", section=section, info=object_contents.FUNCTION, other=0, value=0,
                                       size=4)
-        made = types.SimpleNamespace(heads=heads)
-        refuses(lambda named=named, made=made: object_contents.expect_symbol(made, named, (1, 0), set()),
+        built = types.SimpleNamespace(heads=heads)
+        refuses(lambda named=named, built=built: object_contents.expect_symbol(built, named, (1, 0), set()),
                 f"a symbol of section {section}", (Unsupported,))
 
 
 def copies_of_memory(_):
     """Tests that a state takes copies only of inputs."""
     state = stream_state.State("state", 64, [], [], (0, 64))
-    refuses(lambda: state.take(0, 4, Words("other", 8, [(0, 8, 1)]), 0), "a copy of memory to a state", (Unsupported,))
+    refuses(lambda: state.take(0, 4, WordMemory("other", 8, [(0, 8, 1)]), 0), "a copy of memory to a state", (Unsupported,))
 
 
 def seeds(_):
     """Tests which requests have a twin with the seed 0: those of XXH3 above 240 bytes or of streams, with two
     exceptions if there is a secret."""
-    for name, kind, length, cuts, count in (
+    for name, variant, length, cuts, count in (
             ("3-64", "seed", 240, None, 0), ("3-64", "seed", 241, None, 1), ("3-64", "seed", 5, [], 1),
             ("3-64", "both", 300, None, 0), ("3-64", "both", 300, [], 1), ("3-64", "both", 240, [], 1),
             ("3-128", "both", 240, [], 0), ("3-128", "both", 241, [], 1), ("3-64", "default", 300, None, 0),
             ("64", "seed", 300, None, 0)):
-        secret = 136 if kind == "both" else None
-        twins = Request(name, kind, length, secret, cuts=cuts).with_seed_0()
-        expect(len(twins), count, f"twins of {name}, {kind}, {length}")
+        secret = 136 if variant == "both" else None
+        twins = Request(name, variant, length, secret, cuts=cuts).with_seed_0()
+        expect(len(twins), count, f"twins of {name}, {variant}, {length}")
 
 
 def lengths(_):
@@ -144,17 +144,17 @@ def lengths(_):
 def orders(_):
     """Tests comparisons of a byte with itself, and with numbers above all bytes."""
     byte, other = (symbol(name, 8) for name in ("a byte", "the other byte"))
-    for found, wanted in ((byte >= byte, True), (byte > byte, False), (byte <= byte, True), (byte < byte, False),
-                          (byte >= 256, False), (byte < 256, True), (byte > 255, False), (byte <= 255, True)):
-        expect(found, wanted, "the order of a byte")
+    for found, expected in ((byte >= byte, True), (byte > byte, False), (byte <= byte, True), (byte < byte, False),
+                            (byte >= 256, False), (byte < 256, True), (byte > 255, False), (byte <= 255, True)):
+        expect(found, expected, "the order of a byte")
     refuses(lambda: byte >= other, "the order of two bytes")
 
 
-def stored_words(_):
+def stored_values(_):
     """Tests that a word has a size if its cell has one."""
     proof = types.SimpleNamespace(start={"sized": (4, 1), "plain": 1})
-    for cell, wanted in (("sized", (4, 7)), ("plain", 7)):
-        if Induction.as_stored(proof, cell, 7) != wanted:
+    for cell, expected in (("sized", (4, 7)), ("plain", 7)):
+        if Induction.as_stored(proof, cell, 7) != expected:
             raise Wrong(f"the word of a {cell} cell")
 
 
@@ -181,15 +181,15 @@ def bounds(_):
                     refuses(found, f"{width} bits {what} {b}")
 
 
-def sums_of_parts(draw):
+def sums_of_parts(rng):
     """Compares sums of xored and shifted parts of sums and products with Python's. Operations compare their values."""
     x, y = (symbol(name, 64) for name in ("p64", "q64"))
     for _ in range(150):
-        width, k, n = draw.choice((32, 64, 128)), draw.randrange(64), draw.randrange(1, 65)
-        a, b = (draw.choice((operations.add, operations.multiply, operations.xor))(x, y) for _ in range(2))
-        a = operations.xor(operations.bits(a, draw.choice((0, k)), n), draw.choice((0, 1, (1 << n) - 1, draw.getrandbits(n))))
-        found = operations.add_at(width, (1 << draw.randrange(width), a), (draw.choice((1, -1, 3)), b), (1, draw.getrandbits(64)))
-        operations.xor(operations.bits(found, k, n), draw.getrandbits(n))
+        width, k, n = rng.choice((32, 64, 128)), rng.randrange(64), rng.randrange(1, 65)
+        a, b = (rng.choice((operations.add, operations.multiply, operations.xor))(x, y) for _ in range(2))
+        a = operations.xor(operations.bits(a, rng.choice((0, k)), n), rng.choice((0, 1, (1 << n) - 1, rng.getrandbits(n))))
+        found = operations.add_at(width, (1 << rng.randrange(width), a), (rng.choice((1, -1, 3)), b), (1, rng.getrandbits(64)))
+        operations.xor(operations.bits(found, k, n), rng.getrandbits(n))
 
 
 def no_bits(_):
@@ -205,7 +205,7 @@ def no_bits(_):
 def unset_flags(_):
     """Tests that no condition holds if the flags aren't set."""
     for name in ("e", "ne", "b", "ae", "a", "be", "l", "ge", "g", "le"):
-        refuses(lambda: processors.made().condition(name), f"{name} of no flags", (Unsupported,))
+        refuses(lambda: processors.new_processor().condition(name), f"{name} of no flags", (Unsupported,))
 
 
 def moved_bits(_):
@@ -226,22 +226,22 @@ def powers(_):
     refuses(lambda: antt.OPERATORS["^"](2, 4097), "a power with a greater exponent", antt.Unreadable)
 
 
-def points_of_facts(draw):
+def points_of_facts(rng):
     """Tests where points are drawn that satisfy facts: the known ones first, and until one or enough are found."""
-    names, known = ["a", "b"], [{"a": 10 ** 6 + k, "b": 7 * k} for k in range(polynomials.KEPT)]
-    expect(polynomials.drawn_points(names, draw, known, polynomials.NEAR) == known, True, "known points")
-    expect(polynomials.drawn_points(names, draw, (), 1) == [{"a": 0, "b": 0}], True, "the first point")
+    names, known = ["a", "b"], [{"a": 10 ** 6 + k, "b": 7 * k} for k in range(polynomials.ENOUGH)]
+    expect(polynomials.random_points(names, rng, known, polynomials.NEAR) == known, True, "known points")
+    expect(polynomials.random_points(names, rng, (), 1) == [{"a": 0, "b": 0}], True, "the first point")
     a = variable("a")
     with given(minus(a, 5)):
         for around in ((), known, [{"a": 1, "b": 2}]):
-            found = polynomials.drawn_points(["a"], draw, [{"a": point["a"]} for point in around], 100)
-            expect(len(found) == polynomials.KEPT and all(point["a"] >= 5 for point in found), True, "points from 5 on")
+            found = polynomials.random_points(["a"], rng, [{"a": point["a"]} for point in around], 100)
+            expect(len(found) == polynomials.ENOUGH and all(point["a"] >= 5 for point in found), True, "points from 5 on")
     with given(minus(times(3, a), plus(variable("b"), 10)), at_most(a, 100)):
         expect(all(3 * point["a"] >= point["b"] + 10 and point["a"] <= 100 for point in polynomials.under.points), True, "points")
     for late, count, tried in ((0, 8, 8), (50, 8, 58), (58, 4, 62), (80, 1, 81), (400, 0, 90)):
         asked = []
         with unittest.mock.patch.object(polynomials, "moved", lambda point, _: asked.append(1) or (point if len(asked) > late else None)):
-            expect(len(polynomials.drawn_points(names, draw, (), 90)), count, f"points of which the first {late} don't fit")
+            expect(len(polynomials.random_points(names, rng, (), 90)), count, f"points of which the first {late} don't fit")
         expect(len(asked), tried, f"tried points of which the first {late} don't fit")
 
 
@@ -263,15 +263,15 @@ def near_offsets(_):
 
 def lost_flags_of_shifts(_):
     """Tests which flags a shift or rotation leaves: none of a rotation, the zero flag of a shift, all by no bits."""
-    for mnemonic, key, k, kept in (("rol", "iq", 3, ""), ("rol", "iq", 0, "e b"), ("rol", "iq", 64, "e b"), ("shl", "iq", 3, "e"),
-                                   ("shr", "iq", 3, "e"), ("shl", "iq", 64, "e b"), ("shld", "iqq", 4, ""), ("shrd", "iqq", 4, ""),
-                                   ("shld", "iqq", 64, "e b"), ("shrd", "iqq", 0, "e b")):
-        cpu = processors.made()
+    for mnemonic, key, k, unchanged in (("rol", "iq", 3, ""), ("rol", "iq", 0, "e b"), ("rol", "iq", 64, "e b"), ("shl", "iq", 3, "e"),
+                                        ("shr", "iq", 3, "e"), ("shl", "iq", 64, "e b"), ("shld", "iqq", 4, ""), ("shrd", "iqq", 4, ""),
+                                        ("shld", "iqq", 64, "e b"), ("shrd", "iqq", 0, "e b")):
+        cpu = processors.new_processor()
         cpu.set_flags("logic", 64, 0, 0, 0)
         registers = [Register(name) for name in ("rbx", "rax")][-len(key[1:]):]
         TABLE[mnemonic, key][1](cpu, processors.instruction(mnemonic, Immediate(k), *registers))
         for name in ("e", "b"):
-            if name in kept.split():
+            if name in unchanged.split():
                 expect(cpu.condition(name), name == "e" and k % 64 == 0, f"{name} after {mnemonic} by {k}")
             else:
                 refuses(lambda: cpu.condition(name), f"{name} after {mnemonic} by {k}")
@@ -291,7 +291,7 @@ def tables_of_bits(_):
     """Tests that of the functions of three bits only xor is run."""
     names = [Register(f"zmm{k}") for k in range(3)]
     for table in (0x96, 0x95, 0x97, 0, 0xFF, 0x69):
-        cpu, x = processors.made(), processors.instruction("vpternlogq", Immediate(table), *names)
+        cpu, x = processors.new_processor(), processors.instruction("vpternlogq", Immediate(table), *names)
         for k in range(3):
             cpu.vectors[k] = [1 << k] * 8
         if table == 0x96:
@@ -338,18 +338,18 @@ def forgotten_terms(_):
 
 def far_places(_):
     """Tests that addresses are only compared by their offsets if both are within their object, or near to it."""
-    n, room = variable("n"), Words("room", 1 << 20, alignment=8)
+    n, buffer = variable("n"), WordMemory("room", 1 << 20, alignment=8)
     with given(minus(n, 1), at_most(n, 100)):
-        near, far = address(room, n), address(room, times(1 << 63, n))
+        near, far = address(buffer, n), address(buffer, times(1 << 63, n))
         for a, b in ((near, far), (far, near)):
             refuses(lambda: flags.are_one_place(a, b), "places of which one is far away")
-        expect(flags.are_one_place(near, address(room, plus(n, 1))), False, "two places")
+        expect(flags.are_one_place(near, address(buffer, plus(n, 1))), False, "two places")
 
 
 def quotients(_):
     """Tests that a quotient of two words, or by 0, is refused."""
     for above, b, is_right in ((0, 7, True), (1, 7, False), (0, 0, False)):
-        cpu, x = processors.made(), processors.instruction("div", Register("rcx"))
+        cpu, x = processors.new_processor(), processors.instruction("div", Register("rcx"))
         cpu.registers.update(rdx=above, rax=100, rcx=b)
         if is_right:
             TABLE["div", "q"][1](cpu, x)
@@ -358,13 +358,13 @@ def quotients(_):
             refuses(lambda: TABLE["div", "q"][1](cpu, x), f"a quotient of {above} and {b}", (Unsupported,))
 
 
-def selected_words(_):
+def selected_parts(_):
     """Tests which words of two vectors shufps selects."""
     for order in (0b11100100, 0b00011011, 0):
-        cpu, x = processors.made(), processors.instruction("shufps", Immediate(order), Register("xmm1"), Register("xmm2"))
+        cpu, x = processors.new_processor(), processors.instruction("shufps", Immediate(order), Register("xmm1"), Register("xmm2"))
         source, to = [10, 11, 12, 13], [20, 21, 22, 23]
-        for k, words in ((1, source), (2, to)):
-            cpu.vectors[k][:2] = [words[0] | words[1] << 32, words[2] | words[3] << 32]
+        for k, values in ((1, source), (2, to)):
+            cpu.vectors[k][:2] = [values[0] | values[1] << 32, values[2] | values[3] << 32]
         TABLE["shufps", "ixx"][1](cpu, x)
         picked = [some[order >> 2 * k & 3] for k, some in enumerate((to, to, source, source))]
         expect(cpu.vectors[2][:2] == [picked[0] | picked[1] << 32, picked[2] | picked[3] << 32], True, f"words by {order:#x}")
@@ -372,14 +372,14 @@ def selected_words(_):
 
 def patterns(_):
     """Tests the patterns of a definition's clause."""
-    made = antt.Definition(types.SimpleNamespace(path="a"), "f", [], False)
-    for words, expected in (("( suc n )", [("suc", "n")]), ("zero n Some", [("zero",), ("name", "n"), ("constructor", "Some")]),
-                            ("( Some n )", None), ("( suc n m )", None)):
-        made.clauses = [([(word, 0) for word in words.split()], [])]
+    built = antt.Definition(types.SimpleNamespace(path="a"), "f", [], False)
+    for values, expected in (("( suc n )", [("suc", "n")]), ("zero n Some", [("zero",), ("name", "n"), ("constructor", "Some")]),
+                             ("( Some n )", None), ("( suc n m )", None)):
+        built.clauses = [([(word, 0) for word in values.split()], [])]
         if expected:
-            expect(made.patterns(0) == expected, True, f"the pattern {words}")
+            expect(built.patterns(0) == expected, True, f"the pattern {values}")
         else:
-            refuses(lambda: made.patterns(0), f"the pattern {words}", antt.Unreadable)
+            refuses(lambda: built.patterns(0), f"the pattern {values}", antt.Unreadable)
 
 
 def runs_of_sources(_):
@@ -400,6 +400,6 @@ def names_as_values(_):
 
 
 ALL = [jumps, jumps_of_arm, forms, narrow_sums, lost_flags, unions, remainders, replaced_variables, identities, sections,
-       copies_of_memory, seeds, lengths, orders, stored_words, bounds, sums_of_parts, no_bits, unset_flags, moved_bits, powers,
+       copies_of_memory, seeds, lengths, orders, stored_values, bounds, sums_of_parts, no_bits, unset_flags, moved_bits, powers,
        points_of_facts, spoiled_stack, near_offsets, lost_flags_of_shifts, forms_of_operands, tables_of_bits, masks_of_numbers,
-       numbers_and_terms, forgotten_terms, far_places, quotients, selected_words, patterns, runs_of_sources, names_as_values]
+       numbers_and_terms, forgotten_terms, far_places, quotients, selected_parts, patterns, runs_of_sources, names_as_values]

@@ -3,13 +3,13 @@ runs, which places the cases have, and which tasks there are. Each raises Wrong.
 import types
 import unittest.mock
 
-from machine_code import cargo_tasks, coverage, tasks, values, xxh3_states, xxh3_updates
-from machine_code.induction import Family, Head, Loops, Proof
-from machine_code.memory import ENTRY, Stack, Words
-from machine_code.stripes import LEAST_ENTRY, TAKEN, Part, Stripes, StripesProof, Summary, is_at
-from machine_code.values import Names, address, joined
-from symbolic_terms import (REFUSALS, RUNS, Input, Memory, NotShown, Piece, at_most, given, is_same_number, minus, moved, plus, same,
-                            step_between, symbol, times, variable)
+from oracle.machine_code import cargo_tasks, coverage, tasks, values, xxh3_states, xxh3_updates
+from oracle.machine_code.induction import Family, Head, Loops, Proof
+from oracle.machine_code.memory import ENTRY, Stack, WordMemory
+from oracle.machine_code.stripes import LEAST_ENTRY, TAKEN, Part, Stripes, StripesProof, Summary, is_at
+from oracle.machine_code.values import Names, address, joined
+from oracle.symbolic_terms import (REFUSALS, RUNS, Input, Memory, NotShown, Piece, at_most, given, is_same_number, minus, moved, plus, same,
+                                   step_between, symbol, times, variable)
 
 from . import assumptions, choices, contents, processors
 from .values import expect, refuses
@@ -40,12 +40,12 @@ def records(_):
     """Tests where the records of a call that takes stripes may be."""
     floor, part = ENTRY - 512, Part((0, 2), 3, (0, 5))
     family = types.SimpleNamespace(parts=[part], stripes=lambda place: BLOCK * place[0] + place[1],
-                                   words=lambda k: [100 * k + i for i in range(8)], suppose=lambda k, values: None)
+                                   values_after=lambda k: [100 * k + i for i in range(8)], suppose=lambda k, values: None)
     message, secret = Input("m", 1000), Input("s", 192)
 
     def call(to, first, source, place):
-        memories = {"stack": Stack(), "other": Words("other", ENTRY, alignment=8)}
-        for i, x in enumerate([*family.words(2), 2]):
+        memories = {"stack": Stack(), "other": WordMemory("other", ENTRY, alignment=8)}
+        for i, x in enumerate([*family.values_after(2), 2]):
             memories[source].cells[place + 8 * i] = 8, x
         arguments = (address(memories[to], first), address(memories[source], place), address(message, 128), 192,
                      address(secret), 192)
@@ -66,7 +66,7 @@ def lost_runs(cpu):
     """Tests that a state without its buffered bytes, or without its secret, is refused."""
     proof = xxh3_states.OwnSecret(cpu)
     b, j, f = (variable(name) for name in "bjf")
-    with given(*proof.facts, minus(minus(proof.q, 1), j), minus(f, 1), at_most(f, proof.room)):
+    with given(*proof.facts, minus(minus(proof.q, 1), j), minus(f, 1), at_most(f, proof.capacity)):
         proof.begin(plus(times(64, proof.stripes((b, j))), f))
         state = proof.state((b, j), f)
         proof.expect_state("a state", state, (b, j), f, [], {})
@@ -92,9 +92,9 @@ def places(_):
 
 def tasks_of_streams(_):
     """Tests the tasks of cargo's streams: all parts, without the functions that c/asm's tasks show, or a sample."""
-    made = dict.fromkeys(("cargo's x86-64", "cargo's x86-64-v3"))
+    built = dict.fromkeys(("cargo's x86-64", "cargo's x86-64-v3"))
     for is_all, count, of_v3 in ((True, 30, 0), (False, 10, 1)):
-        titles = [task.title for task in cargo_tasks.xxh3_tasks(made, is_all)]
+        titles = [task.title for task in cargo_tasks.xxh3_tasks(built, is_all)]
         expect(len(titles), count, "tasks of streams")
         expect(len({*titles}), count, "titles of tasks")
         expect(sum(xxh3_updates.STRIPES in title and "-v3," in title for title in titles), of_v3, "tasks of stripes")
@@ -106,20 +106,20 @@ def last_stripes(cpu):
     proof, assumed = xxh3_states.Through(cpu), []
     proof.state = lambda place, f, runs=(), *_: assumed.append(len(runs)) or types.SimpleNamespace(cells={})
     proof.run, proof.expect_state = lambda *_, **__: None, lambda *_: None
-    for is_short, count, length, parts, kept in ((True, 0, 10, (), 1), (False, 0, 10, (), 0),
-                                                 (True, 4, 266, (Part((0, 0), 4, (0, 4)),), 0)):
+    for is_short, count, length, parts, expected in ((True, 0, 10, (), 1), (False, 0, 10, (), 0),
+                                                     (True, 4, 266, (Part((0, 0), 4, (0, 4)),), 0)):
         proof.update_to(is_short, ((0, 0), 0), ((0, count), 10), length, [], parts)
-        expect(assumed.pop(), kept, "last stripes of a state before an update")
+        expect(assumed.pop(), expected, "last stripes of a state before an update")
     for count, length in ((3, 202), (4, 267)):
         refuses(lambda count=count, length=length: proof.update_to(
             False, ((0, 0), 0), ((0, count), 10), length, [], (Part((0, 0), count, (0, count)),)), "a wrong case", (NotShown,))
     b, j = variable("b"), variable("j")
-    for place, f, kept in (((b, j), 63, 1), ((b, j), 64, 0), ((0, 0), 63, 0)):
+    for place, f, expected in (((b, j), 63, 1), ((b, j), 64, 0), ((0, 0), 63, 0)):
         try:
             proof.digest(place, f, [minus(b, 1), minus(minus(proof.q, 1), j)], (), 0, "64")
         except REFUSALS:
             pass                  # of the value, which nothing computes here
-        expect(assumed.pop(), kept, "last stripes of a state before a digest")
+        expect(assumed.pop(), expected, "last stripes of a state before a digest")
 
 
 def places_of_v4(cpu):
@@ -134,13 +134,13 @@ def places_of_v4(cpu):
 
 def states(_):
     """Tests the states at which digests are tested: no stripes, or more than 240 bytes."""
-    proof = types.SimpleNamespace(q=None, longest_secret=1 << 60, longest_piece=1 << 40, room=512, whole=8)
+    proof = types.SimpleNamespace(q=None, longest_secret=1 << 60, longest_piece=1 << 40, capacity=512, whole=8)
     found = list(coverage.states(3000, proof))
     expect(len(found) > 2000, True, "the number of states")
     expect(all(not (b or j) or 64 * (q * b + j) + f > 240 for q, _, b, j, f in found), True, "the stripes of a state")
 
 
-def held_words(_):
+def held_values(_):
     """Tests that words that are numbers are found in the cells."""
     for word, is_held in ((5, True), (6, False)):
         proof = types.SimpleNamespace(start={"cell": 5}, family=types.SimpleNamespace(seem=lambda _, has, x=word: has(x)))
@@ -168,9 +168,9 @@ def heads(_):
 
 def sources_of_v4(_):
     """Tests which sources are for x86-64-v4."""
-    made = dict.fromkeys(("x86-64-v3", "x86-64-v4", "cargo's x86-64-v4"))
-    expect([*tasks.only_v4(made)] == ["x86-64-v4", "cargo's x86-64-v4"], True, "sources for x86-64-v4")
-    expect([*tasks.before_v4(made)] == ["x86-64-v3"], True, "sources for others")
+    built = dict.fromkeys(("x86-64-v3", "x86-64-v4", "cargo's x86-64-v4"))
+    expect([*tasks.only_v4(built)] == ["x86-64-v4", "cargo's x86-64-v4"], True, "sources for x86-64-v4")
+    expect([*tasks.before_v4(built)] == ["x86-64-v3"], True, "sources for others")
 
 
 def steps_in_blocks(_):
@@ -188,17 +188,17 @@ def steps_in_blocks(_):
 def places_in_inputs(_):
     """Tests which addresses are known to be bytes of an input: in it, in a part of it, or in memory with a copy."""
     source, n = Input("s", 300), variable("n")
-    piece, room = Piece(source, 64, 128), Memory("room", 100)
+    piece, buffer = Piece(source, 64, 128), Memory("room", 100)
     with given(minus(n, 40), at_most(n, 60)):
-        room.put_run(10, n, source, 5)
+        buffer.put_run(10, n, source, 5)
         for memory, offset, at, size, holds in (
                 (source, 10, 10, 20, True), (source, 10, 11, 20, False), (source, 290, 290, 10, True), (source, 290, 290, 11, False),
                 (source, -1, -1, 5, False), (piece, 3, 67, 10, True), (piece, 3, 3, 10, False), (piece, 120, 184, 8, True),
-                (piece, 120, 184, 9, False), (piece, -1, 63, 2, False), (room, 12, 7, 8, True), (room, 12, 12, 8, False),
+                (piece, 120, 184, 9, False), (piece, -1, 63, 2, False), (buffer, 12, 7, 8, True), (buffer, 12, 12, 8, False),
                 (Input("t", 300), 10, 10, 20, False)):
             expect(is_at(address(memory, offset), source, at, size), holds, f"{size} bytes at {offset} of {memory.name} as {at}")
         for offset, size in ((9, 4), (49, 2)):
-            refuses(lambda: is_at(address(room, offset), source, offset - 5, size), f"{size} bytes at {offset} of a copy")
+            refuses(lambda: is_at(address(buffer, offset), source, offset - 5, size), f"{size} bytes at {offset} of a copy")
 
 
 def families(_):
@@ -208,14 +208,14 @@ def families(_):
         family = Family("f", stripe, 9, 4, lambda k: lambda j: symbol(f"w{k}:{j}", 32), lambda *put: known.append(put), sizes)
         expect(family.sizes == (sizes if stripe == 16 else (1,)), True, "numbers of words in a cell")
         family.together = together
-        words = [symbol(f"w3:{j}", 32) for j in range(4)]
-        cells = [words[j] if together == 1 else joined(*((x, 32) for x in words[j:j + together])) for j in range(0, 4, together)]
+        symbols = [symbol(f"w3:{j}", 32) for j in range(4)]
+        cells = [symbols[j] if together == 1 else joined(*((x, 32) for x in symbols[j:j + together])) for j in range(0, 4, together)]
         expect(len(cells), expected, "cells")
-        expect(len(family.words(3)) == len(cells) and all(map(same, family.words(3), cells)), True, "words")
+        expect(len(family.values_after(3)) == len(cells) and all(map(same, family.values_after(3), cells)), True, "words")
         for missing in (None, *range(expected)):
             expect(family.seem(3, lambda x, missing=missing: missing is None or x is not cells[missing]), missing is None, "words that are there")
-        family.suppose(3, words)
-        expect(known.pop() == (3, words) and not family.known, True, "assumed words")
+        family.suppose(3, symbols)
+        expect(known.pop() == (3, symbols) and not family.known, True, "assumed words")
 
 
 def advances(_):
@@ -242,20 +242,20 @@ def advances(_):
 
 def earlier_guesses(_):
     """Tests which cells have the words by facts of another call: those whose values at the start are the words."""
-    words, other, room = [symbol(f"v{j}", 64) for j in range(2)], symbol("other", 64), Words("room", 64, alignment=8)
+    symbols, other, buffer = [symbol(f"v{j}", 64) for j in range(2)], symbol("other", 64), WordMemory("room", 64, alignment=8)
     rax, rbx, rcx, rdx, rsi = (("register", name) for name in ("rax", "rbx", "rcx", "rdx", "rsi"))
-    source, cell, head = Input("m", 100), (room, 8, 8), ("f", 4)
+    source, cell, head = Input("m", 100), (buffer, 8, 8), ("f", 4)
     facts = 2, {rax: 0, rbx: 1}, {rcx: 128, rdx: 1, rsi: 3}, {("room", 8, 8)}
-    for start, places, unset in (({rax: words[0], rbx: words[1]}, {rcx, rdx}, {rsi, cell}), ({rax: words[0], rbx: other}, {rcx, rdx}, {rbx, rsi, cell}),
-                                 ({rax: words[1], rbx: words[0]}, {rcx, rdx}, {rax, rbx, rsi, cell})):
+    for start, places, unset in (({rax: symbols[0], rbx: symbols[1]}, {rcx, rdx}, {rsi, cell}), ({rax: symbols[0], rbx: other}, {rcx, rdx}, {rbx, rsi, cell}),
+                                 ({rax: symbols[1], rbx: symbols[0]}, {rcx, rdx}, {rax, rbx, rsi, cell})):
         proof = Proof.__new__(Proof)
         proof.head, proof.loops = head, types.SimpleNamespace(guesses={head: facts})
-        proof.cpu, proof.family = types.SimpleNamespace(stack=Stack(), live=[room]), types.SimpleNamespace(words=lambda first: words)
+        proof.cpu, proof.family = types.SimpleNamespace(stack=Stack(), live=[buffer]), types.SimpleNamespace(values_after=lambda first: symbols)
         proof.start = {**start, rcx: address(source, 8), rdx: 7, rsi: other, cell: 5, ("register", "rdi"): 9}
         proof.forget()
-        is_right = all(start[name] is words[j] for name, j in facts[1].items())
+        is_right = all(start[name] is symbols[j] for name, j in facts[1].items())
         expect(proof.guess_again(0), is_right, "facts of another call")
-        expect(proof.words == {name: j for name, j in facts[1].items() if start[name] is words[j]}, True, "cells of words")
+        expect(proof.indices == {name: j for name, j in facts[1].items() if start[name] is symbols[j]}, True, "cells of words")
         expect({*proof.places} == places and proof.places[rdx] == (7, 1) and proof.places[rcx][1] == 128, True, "cells that advance")
         expect(proof.unset == unset and proof.step == 2, True, "cells that may hold anything")
     proof.head = "g", 4
@@ -282,8 +282,8 @@ def changed_cells(_):
 
 def long_calls(_):
     """Tests the arguments of calls of the functions for chunks that don't fit."""
-    for kind in (xxh3_states.OwnSecret, xxh3_states.CallersSecret):
-        proof, calls, other = kind(processors.made()), [], Words("other", 600, alignment=8)
+    for proof_class in (xxh3_states.OwnSecret, xxh3_states.CallersSecret):
+        proof, calls, other = proof_class(processors.new_processor()), [], WordMemory("other", 600, alignment=8)
         with given(*proof.facts):
             proof.begin(5000)
             state, piece, at = proof.state((0, 0), 0), Piece(proof.source, 0, 700), proof.at
@@ -312,5 +312,5 @@ def plus_address(place):
     return address(memory, at + 1)
 
 
-ALL = [heads, sources_of_v4, turns, records, places, tasks_of_streams, states, held_words, steps_in_blocks, places_in_inputs, families, advances,
+ALL = [heads, sources_of_v4, turns, records, places, tasks_of_streams, states, held_values, steps_in_blocks, places_in_inputs, families, advances,
        earlier_guesses, changed_cells, long_calls, *assumptions.ALL, *choices.ALL, *contents.ALL]

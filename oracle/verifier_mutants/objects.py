@@ -4,10 +4,10 @@ Expected values come from the formats: LEB128 and DWARF's directives for frames,
 import struct
 import types
 
-import eh_frame
-import same_bytes
-from machine_code import disassembly, unwinding
-from machine_code.objects import Immediate, Instruction, Place, Register
+from assembly import eh_frame
+from assembly import same_bytes
+from oracle.machine_code import disassembly, unwinding
+from oracle.machine_code.objects import Immediate, Instruction, Place, Register
 
 from .values import Wrong, expect, refuses
 
@@ -25,7 +25,7 @@ def leb128(value):
             return bytes(out)
 
 
-def frames(draw):
+def frames(rng):
     """Follows directives of a frame, and compares it with the table that they describe."""
     for value in (0, 1, 63, 64, 127, 128, 300, 16384, -1, -8, -64, -65, -128, -300):
         data = b"\x11" + leb128(value) + b"\x22"
@@ -39,27 +39,27 @@ def frames(draw):
     directives = bytes([0x41, 0x0e, 16, 0x86, 2, 0x43, 0x0e, 24, 0x83, 3, 0x02, 100, 0x0e, 8, 0xc6, 0xc3, 0x00,
                         0x03, 0x10, 0x01, 0x0c, 7, 32, 0x05, 12, 4, 0x04, 2, 0, 0, 0, 0x06, 12])
     table.data = b"\xff" * 3 + directives
-    rows, end = table.followed(3, len(table.data), 1, -8, (8, {16: -8}), {16: -8})
+    entries, end = table.followed(3, len(table.data), 1, -8, (8, {16: -8}), {16: -8})
     first, second = {16: -8}, {16: -8, 6: -16}
     expected = [(0, (8, first)), (1, (16, second)), (4, (24, {**second, 3: -24})), (104, (8, first)),
                 (376, (32, {**first, 12: -32})),
                 (378, (32, first))]
-    if rows != expected or end != len(table.data):
-        raise Wrong(f"the frames {rows}")
-    table.functions = {"f": rows, "a": rows[:1]}
+    if entries != expected or end != len(table.data):
+        raise Wrong(f"the frames {entries}")
+    table.functions = {"f": entries, "a": entries[:1]}
     for at, k in ((0, 0), (1, 1), (3, 1), (4, 2), (103, 2), (104, 3), (375, 3), (376, 4), (10 ** 6, 5)):
         if table.at("f", at) != expected[k][1]:
             raise Wrong(f"the frame at {at}")
     if [name for name, _ in table.sorted_frames()] != ["a", "f"] or table.sorted_frames()[1][1][1] != (1, 16,
                                                                 [(6, -16), (16, -8)]):
         raise Wrong("sorted frames")
-    rows, _ = table.followed(3, 5, 4, -8, (8, {}), {})
-    if rows[0][0] != 0:
+    entries, _ = table.followed(3, 5, 4, -8, (8, {}), {})
+    if entries[0][0] != 0:
         raise Wrong("the first frame")
     table.data = bytes([0x42, 0x0e, 16, 0x83, 3, 0x41, 0xc3, 0x41, 0x08, 3])
-    rows, _ = table.followed(0, len(table.data), 4, -4, (8, {3: -4}), {3: -4})
-    if rows != [(0, (8, {3: -4})), (8, (16, {3: -12})), (12, (16, {3: -4})), (16, (16, {}))]:
-        raise Wrong(f"a restored register: {rows}")
+    entries, _ = table.followed(0, len(table.data), 4, -4, (8, {3: -4}), {3: -4})
+    if entries != [(0, (8, {3: -4})), (8, (16, {3: -12})), (12, (16, {3: -4})), (16, (16, {}))]:
+        raise Wrong(f"a restored register: {entries}")
     for bad in (b"\x0c\x06\x08", b"\x0f\x01\x00", b"\x0a", b"\x13\x01"):
         table.data = bad
         refuses(lambda: table.followed(0, len(bad), 1, -8, (8, {}), {}), f"the directive {bad.hex()}", FAULTS)
@@ -86,7 +86,7 @@ FUNCTION = struct.pack("<IIII", 20, 28, 0, 16) + bytes([0, 0x41, 0x0e, 16, 0, 0,
 LEAD = [(32, 2, ".text.f", 0, 0)]
 
 
-def tables(draw):
+def tables(rng):
     """Reads a table of one function, and refuses tables that describe another."""
     right = HEAD + FUNCTION
     if eh_frame.Table(Parts(right, LEAD)).functions != {".text.f": [(0, (8, {16: -8})), (1, (16, {16: -8}))]}:
@@ -120,7 +120,7 @@ def instruction(mnemonic, *operands, target=None):
     return Instruction("f", 0, 4, mnemonic, operands, target)
 
 
-def effects(draw):
+def effects(rng):
     """Compares the effects of instructions on a frame with the processor's manual."""
     rsp, rbx, rax, place = Register("rsp"), Register("rbx"), Register("rax"), Place(-16, "rsp", None, 1)
     effect = unwinding.X86.effect
@@ -153,7 +153,7 @@ def effects(draw):
             raise Wrong(f"{mnemonic} as a jump")
 
 
-def followed_frames(draw):
+def followed_frames(rng):
     """Compares frames after an instruction with those that it leads to."""
     rsp, rbx = Register("rsp"), Register("rbx")
     push, pop, sub, nop = instruction("push", rbx), instruction("pop", rbx), instruction("sub", Immediate(24),
@@ -195,15 +195,15 @@ def followed_frames(draw):
             raise Wrong(f"{x.mnemonic} from {before} to {after}: {fault}")
 
 
-def notes(draw):
+def notes(rng):
     """Reads notes and properties of an object."""
-    def note(name, content, kind):
+    def note(name, content, note_type):
         padded = name + bytes(-len(name) % 4)
-        return struct.pack("<III", len(name), len(content), kind) + padded + content + bytes(-len(content) % 8)
+        return struct.pack("<III", len(name), len(content), note_type) + padded + content + bytes(-len(content) % 8)
     data = note(b"GNU\0", b"12345678", 5) + note(b"GNU\0", b"abc", 7)
     if list(same_bytes.notes_of(data, 8)) != [((5, b"GNU\0"), b"12345678"), ((7, b"GNU\0"), b"abc")]:
         raise Wrong("notes")
-    properties = [struct.pack("<IIII", kind, 4, 9, 0) for kind in (0xc0000002, 0xc0010001, 0xc0008002, 0xc0017fff,
+    properties = [struct.pack("<IIII", property_type, 4, 9, 0) for property_type in (0xc0000002, 0xc0010001, 0xc0008002, 0xc0017fff,
                                                                 0xc0018000)]
     expected = [properties[k][:12] for k in (0, 2, 4)]
     if list(same_bytes.properties_of(b"".join(properties))) != expected:
@@ -223,7 +223,7 @@ def notes(draw):
     expect(same_bytes.PC32, 2, "the relocation of a distance")
 
 
-def changed_objects(path, draw, seen=lambda first, second: list(same_bytes.differences(first, second,
+def changed_objects(path, rng, seen=lambda first, second: list(same_bytes.differences(first, second,
                                                                 same_bytes.difference))):
     """Changes bytes of an object's headers, symbols, relocations and code. Each must be refused or differ."""
     whole = same_bytes.Object(path)
@@ -231,13 +231,13 @@ def changed_objects(path, draw, seen=lambda first, second: list(same_bytes.diffe
     changes = [0, 4, 5, 16, 18]
     start, = struct.unpack_from("<Q", data, 40)
     loaded = [k for k, head in enumerate(whole.heads) if head.flags & 2 and head.size and head.kind != 8]
-    for k in draw.sample(loaded, min(6, len(loaded))):
+    for k in rng.sample(loaded, min(6, len(loaded))):
         changes += [start + 64 * k + 8, start + 64 * k + 32, start + 64 * k + 48]
-        changes.append(whole.heads[k].offset + draw.randrange(whole.heads[k].size))
+        changes.append(whole.heads[k].offset + rng.randrange(whole.heads[k].size))
     for head in whole.heads:
         if head.kind == 2:
             named = [k for k, symbol in enumerate(whole.symbols) if symbol.info >> 4 and symbol.section]
-            changes += [head.offset + 24 * k + at for k in draw.sample(named, 3) for at in (4, 5, 6, 8, 16)]
+            changes += [head.offset + 24 * k + at for k in rng.sample(named, 3) for at in (4, 5, 6, 8, 16)]
         elif head.kind == 4 and whole.heads[head.info].flags & 2:
             changes += [head.offset + at for at in (0, 8, 16)]
     for at in changes:
@@ -263,7 +263,7 @@ def read(other, data):
     assert os
 
 
-def jumps(draw):
+def jumps(rng):
     """Compares the bytes of jumps, calls and nops on x86-64 with the processor's manual."""
     led = disassembly.led_on_x86
     for at, text, expected in (
@@ -296,13 +296,13 @@ def jumps(draw):
     expect(len(disassembly.NOPS), 14, "the number of nops")
 
 
-def bytes_of_text(draw):
+def bytes_of_text(rng):
     """Assembles instructions again: each whose bytes aren't those of its text is refused, wherever it is."""
     right = [(0, "b805000000", "mov $0x5,%eax"), (5, "4801d8", "add %rbx,%rax"), (8, "eb00", "jmp a <f+0xa>"),
              (10, "c3", "ret")]
 
-    def program(rows, last="c3"):
-        return types.SimpleNamespace(listing={"f": [(at, bytes.fromhex(raw), text) for at, raw, text in rows],
+    def program(entries, last="c3"):
+        return types.SimpleNamespace(listing={"f": [(at, bytes.fromhex(raw), text) for at, raw, text in entries],
                                               "g": [(0, bytes.fromhex(last), "ret # nothing")]},
                                      object=types.SimpleNamespace(machine=62), is_relocated=lambda *_: False)
     disassembly.expect_bytes(program(right))

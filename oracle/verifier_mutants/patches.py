@@ -10,8 +10,8 @@ import types
 from . import edits
 
 TOP = os.path.dirname(os.path.dirname(os.path.dirname(os.path.abspath(__file__))))
-KEPT = "verifier_mutants", "verifier_mutants.patches", "verifier_mutants.edits", "verifier_mutants.runs", "tools"
-ROOTS = [os.path.join(TOP, *path) for path in (("oracle",), ("assembly",), ("checks", "lib"))]
+PACKAGE = "oracle.verifier_mutants"
+NEVER_RELOADED = PACKAGE, *(f"{PACKAGE}.{name}" for name in ("patches", "edits", "runs")), "checks.lib.tools"
 
 
 class Loader(importlib.abc.MetaPathFinder, importlib.abc.SourceLoader):
@@ -22,14 +22,12 @@ class Loader(importlib.abc.MetaPathFinder, importlib.abc.SourceLoader):
         self.codes, self.paths, self.changed = {}, {}, {}
 
     def find_spec(self, name, path, target=None):
-        for root in ROOTS:
-            base = os.path.join(root, *name.split("."))
-            for end in (".py", "/__init__.py"):
-                if os.path.isfile(base + end):
-                    self.paths[name] = base + end
-                    return importlib.util.spec_from_file_location(name, base + end, loader=self,
-                                                                submodule_search_locations=(
-                        [base] if end.startswith("/") else None))
+        base = os.path.join(TOP, *name.split("."))
+        for end in (".py", "/__init__.py"):
+            if os.path.isfile(base + end):
+                self.paths[name] = base + end
+                inside = [base] if end.startswith("/") else None
+                return importlib.util.spec_from_file_location(name, base + end, loader=self, submodule_search_locations=inside)
         return None
 
     def get_filename(self, name):
@@ -105,9 +103,9 @@ def import_again(loader, patch):
     """Imports all of the repository's modules again, one of them changed. Returns the checks' module."""
     loader.changed[patch.path] = patch.code
     for name in [*loader.paths]:
-        if name not in KEPT:
+        if name not in NEVER_RELOADED:
             sys.modules.pop(name, None)
             package, _, last = name.rpartition(".")
-            if package in KEPT:
+            if package in sys.modules:
                 vars(sys.modules[package]).pop(last, None)
-    return importlib.import_module("verifier_mutants.checks")
+    return importlib.import_module(f"{PACKAGE}.checks")

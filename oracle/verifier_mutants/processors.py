@@ -3,11 +3,11 @@
 Expected values are those of the processor's manual and of the calling convention."""
 import types
 
-from machine_code import lanes, processor, scalar
-from machine_code.memory import ENTRY, RED, Constants, Numbers, OnlyRead, ReturnTo, Stack, Words
-from machine_code.objects import Immediate, Instruction, Place, Register
-from machine_code.values import address
-from symbolic_terms import at_most, given, nodes, operations, symbol, variable
+from oracle.machine_code import lanes, processor, scalar
+from oracle.machine_code.memory import ENTRY, RED, Constants, Numbers, OnlyRead, ReturnTo, Stack, WordMemory
+from oracle.machine_code.objects import Immediate, Instruction, Place, Register
+from oracle.machine_code.values import address
+from oracle.symbolic_terms import at_most, given, nodes, operations, symbol, variable
 
 from .values import Wrong, expect, refuses, value_of
 
@@ -19,7 +19,7 @@ def instruction(mnemonic, *operands, target=None, at=0, size=4):
     return Instruction("f", at, at + size, mnemonic, operands, target)
 
 
-def made(*code):
+def new_processor(*code):
     """Returns a processor with a program of one function, with a stack, whose registers are numbers."""
     program = types.SimpleNamespace(constants={"c": (bytes(range(32)), 16)}, sections={"f": {x.at: x for x in code}},
                                     functions={}, function=lambda name: ("f", 0), exports={})
@@ -33,20 +33,20 @@ def made(*code):
     return cpu
 
 
-def registers(draw):
+def registers(rng):
     """Reads and writes parts of registers."""
     x = instruction("mov")
     for name, width, expected in (("al", 8, 0x88), ("ah", 8, 0x77), ("ax", 16, 0x7788), ("eax", 32, 0x55667788),
                                   ("rax", 64, RAX)):
-        expect(made().get(Register(name), width, x), expected, f"the register {name}")
+        expect(new_processor().get(Register(name), width, x), expected, f"the register {name}")
     for name, value, expected in (("al", 0xAB, RAX & ~0xFF | 0xAB), ("ax", 0xABCD, RAX & ~0xFFFF | 0xABCD),
                                   ("eax", 0xABCDEF01, 0xABCDEF01),
                                   ("rax", 5, 5)):
-        cpu = made()
+        cpu = new_processor()
         cpu.put(Register(name), {"al": 8, "ax": 16, "eax": 32, "rax": 64}[name], value, x)
         expect(cpu.registers["rax"], expected, f"a write of {name}")
-    refuses(lambda: made().put(Register("ah"), 8, 1, x), "a write of a second byte")
-    cpu, place = made(), Words("room", 16, alignment=8)
+    refuses(lambda: new_processor().put(Register("ah"), 8, 1, x), "a write of a second byte")
+    cpu, place = new_processor(), WordMemory("room", 16, alignment=8)
     cpu.registers["rcx"] = address(place, 3)
     cpu.put(Register("cl"), 8, 7, x)
     if not isinstance(cpu.registers["rcx"], nodes.Node):
@@ -67,28 +67,28 @@ def registers(draw):
     cpu.registers["rax"] = term
     cpu.put(Register("ax"), 16, 0x1234, x)
     expect(value_of(cpu.registers["rax"]), term.values[0] & ~0xFFFF | 0x1234, "the bits above two bytes")
-    expect(made().get(Immediate(-1 % (1 << 64)), 32, x), 0xFFFFFFFF, "a number of 32 bits")
-    for found, expected in ((made().width(instruction("mov", Register("al"), Register("ecx"))), 32),
-                            (made().width(instruction("movq", Immediate(1), Place(0, "rsp", None, 1))), 64),
-                            (made().width(instruction("movl", Immediate(1), Place(0, "rsp", None, 1))), 32),
-                            (made().width(instruction("add", Register("rcx"), Place(0, "rsp", None, 1))), 64)):
+    expect(new_processor().get(Immediate(-1 % (1 << 64)), 32, x), 0xFFFFFFFF, "a number of 32 bits")
+    for found, expected in ((new_processor().width(instruction("mov", Register("al"), Register("ecx"))), 32),
+                            (new_processor().width(instruction("movq", Immediate(1), Place(0, "rsp", None, 1))), 64),
+                            (new_processor().width(instruction("movl", Immediate(1), Place(0, "rsp", None, 1))), 32),
+                            (new_processor().width(instruction("add", Register("rcx"), Place(0, "rsp", None, 1))), 64)):
         expect(found, expected, "the width of operands")
-    expect(made().whole(Register("eax")), RAX, "a whole register")
-    expect(made().whole(Register("ah")) is None and made().whole(Immediate(3)) is None, True, "no whole register")
+    expect(new_processor().whole(Register("eax")), RAX, "a whole register")
+    expect(new_processor().whole(Register("ah")) is None and new_processor().whole(Immediate(3)) is None, True, "no whole register")
 
 
-def addresses(draw):
+def addresses(rng):
     """Computes addresses, and refuses places that a call may not use."""
-    cpu, x, room = made(), instruction("mov"), Words("room", 64, [(k, 1, k) for k in range(64)], alignment=16)
-    cpu.registers.update(rdi=address(room, 8), rsi=4)
+    cpu, x, buffer = new_processor(), instruction("mov"), WordMemory("room", 64, [(k, 1, k) for k in range(64)], alignment=16)
+    cpu.registers.update(rdi=address(buffer, 8), rsi=4)
     for place, at in ((Place(0, "rdi", None, 1), 8), (Place(5, "rdi", None, 1), 13), (Place(-8, "rdi", None, 1), 0),
                       (Place(1, "rdi", "rsi", 1), 13),
                       (Place(1, "rdi", "rsi", 8), 41)):
         found, offset = cpu.place(place, x)
-        expect(found is room and offset == at, True, f"the place {place}")
+        expect(found is buffer and offset == at, True, f"the place {place}")
     expect(cpu.get(Place(5, "rdi", None, 1), 16, x), 13 | 14 << 8, "a load")
     cpu.put(Place(5, "rdi", None, 1), 16, 0x1234, x)
-    expect(room.load(13, 2), 0x1234, "a store")
+    expect(buffer.load(13, 2), 0x1234, "a store")
     expect(cpu.effective(Place(0, "rip", None, 1), instruction("lea", target=("c", 4))).place()[1], 4,
            "the place of a constant")
     refuses(lambda: cpu.effective(Place(0, "rip", None, 1), instruction("lea", target=("g", 4))),
@@ -106,42 +106,42 @@ def addresses(draw):
     for memory in (Constants("d", b"12345678", 8), OnlyRead("o", 8, [(0, 8, 1)]), Numbers("m", b"12345678")):
         cpu.registers["rdi"] = address(memory)
         refuses(lambda: cpu.put(Place(0, "rdi", None, 1), 64, 1, x), f"a store to {memory.name}")
-    cpu.loops, cpu.live = types.SimpleNamespace(heads=lambda section: ()), [room]
-    cpu.registers["rdi"] = address(room)
+    cpu.loops, cpu.live = types.SimpleNamespace(heads=lambda section: ()), [buffer]
+    cpu.registers["rdi"] = address(buffer)
     cpu.put(Place(0, "rdi", None, 1), 64, 1, x)
     cpu.put(Place(0, "rsp", None, 1), 64, 1, x)
-    cpu.live = [Words("other", 8)]
+    cpu.live = [WordMemory("other", 8)]
     refuses(lambda: cpu.put(Place(0, "rdi", None, 1), 64, 1, x),
             "a store to an object that a loop's proof doesn't know")
 
 
-def stack(draw):
+def stack(rng):
     """Pushes, pops and moves the stack pointer: what lies below the red zone is lost."""
-    cpu = made()
+    cpu = new_processor()
     cpu.push(5)
     expect(cpu.stack_pointer(), ENTRY - 264, "the stack pointer after a push")
     cpu.push(6)
     expect(cpu.pop(), 6, "a pop")
     expect(cpu.pop(), 5, "a pop")
     expect(cpu.stack_pointer(), ENTRY - 256, "the stack pointer after a pop")
-    cpu = made()
+    cpu = new_processor()
     for at in range(0, 256, 8):
         cpu.stack.store(ENTRY - 512 + at, 8, at)
     cpu.move_stack(address(cpu.stack, ENTRY - 256))
     expect(cpu.stack.load(ENTRY - 256 - RED, 8), 256 - RED, "a word in the red zone")
     refuses(lambda: cpu.stack.load(ENTRY - 256 - RED - 8, 8), "a word below the red zone")
-    for to in (address(Words("room", 512), 8), address(cpu.stack, variable("n"))):
+    for to in (address(WordMemory("room", 512), 8), address(cpu.stack, variable("n"))):
         refuses(lambda: cpu.move_stack(to), "another stack")
     refuses(lambda: cpu.move_stack(5), "a number as the stack")
-    cpu = made()
+    cpu = new_processor()
     cpu.push(ReturnTo("f", 4))
     refuses(lambda: cpu.get(Place(0, "rsp", None, 1), 64, instruction("mov")), "a place to return to as a value")
     expect(cpu.frame()[1], ENTRY - 256, "the caller's frame")
 
 
-def calls(draw):
+def calls(rng):
     """Runs small functions, calls of another library, and endings."""
-    cpu = made(instruction("ret"))
+    cpu = new_processor(instruction("ret"))
     expect(cpu.call("f", 3, 4)[0].__class__ is nodes.Node, True, "a register that a call leaves")
     expect(cpu.registers["rdi"], 3, "the first argument")
     expect(cpu.registers["rsi"], 4, "the second argument")
@@ -149,25 +149,25 @@ def calls(draw):
     expect(value_of(operations.bits(cpu.registers["rdi"], 0, 32)), 7, "an argument of 32 bits")
     expect(cpu.registers["rdi"] != 7 if isinstance(cpu.registers["rdi"], int) else True, True, "bits above an argument")
     for name in ("rbx", "rbp", "r12", "r13", "r14", "r15"):
-        refuses(lambda: made(instruction("mov", Immediate(1), Register(name)), instruction("ret", at=4)).call("f"),
+        refuses(lambda: new_processor(instruction("mov", Immediate(1), Register(name)), instruction("ret", at=4)).call("f"),
                 f"a call that changes {name}")
     for name in ("rax", "rcx", "rdx", "rsi", "rdi", "r8", "r11"):
-        made(instruction("mov", Immediate(1), Register(name)), instruction("ret", at=4)).call("f")
-    refuses(lambda: made(instruction("nop")).call("f"), "a function that goes on behind its end")
-    refuses(lambda: made(instruction("jmp", target=("f", 2))).call("f"), "a jump into an instruction")
-    refuses(lambda: made(instruction("jmp", target=("g", 0))).call("f"), "a jump to no section")
-    cpu = made(instruction("jmp", target=("f", 0)))
+        new_processor(instruction("mov", Immediate(1), Register(name)), instruction("ret", at=4)).call("f")
+    refuses(lambda: new_processor(instruction("nop")).call("f"), "a function that goes on behind its end")
+    refuses(lambda: new_processor(instruction("jmp", target=("f", 2))).call("f"), "a jump into an instruction")
+    refuses(lambda: new_processor(instruction("jmp", target=("g", 0))).call("f"), "a jump to no section")
+    cpu = new_processor(instruction("jmp", target=("f", 0)))
     cpu.limit = 50
     refuses(lambda: cpu.call("f"), "a call without end")
-    refuses(lambda: made(instruction("push", Register("rax")), instruction("ret", at=4)).call("f"),
+    refuses(lambda: new_processor(instruction("push", Register("rax")), instruction("ret", at=4)).call("f"),
             "a return to a value")
-    refuses(lambda: made(instruction("pop", Register("rax")), instruction("ret", at=4)).call("f"),
+    refuses(lambda: new_processor(instruction("pop", Register("rax")), instruction("ret", at=4)).call("f"),
             "a place to return to that is lost")
-    refuses(lambda: made(instruction("vmovdqa", Register("ymm1"), Register("ymm2"))).call("f"),
+    refuses(lambda: new_processor(instruction("vmovdqa", Register("ymm1"), Register("ymm2"))).call("f"),
             "a vector that isn't set")
     for name, source in (("memcpy", Numbers("m", bytes(range(100, 132)))), ("memmove", Numbers("m",
                                                                 bytes(range(100, 132)))), ("memset", None)):
-        cpu, to = made(), Words("to", 64, alignment=8)
+        cpu, to = new_processor(), WordMemory("to", 64, alignment=8)
         cpu.push(ReturnTo("f", 4))
         cpu.registers.update(rdi=address(to, 8), rsi=0x141 if source is None else address(source, 4), rdx=16)
         before = dict(cpu.registers)
@@ -177,11 +177,11 @@ def calls(draw):
             expect(value_of(to.load(8 + k, 1)), 0x41 if source is None else 104 + k, f"a byte by {name}")
         expect(cpu.registers["rax"].place() == (to, 8), True, "the result of a call")
         for register in processor.WIDE:
-            is_kept = register in ("rbx", "rbp", "r12", "r13", "r14", "r15")
-            if register not in ("rax", "rsp") and (cpu.registers[register] is before[register]) != is_kept:
+            is_saved = register in ("rbx", "rbp", "r12", "r13", "r14", "r15")
+            if register not in ("rax", "rsp") and (cpu.registers[register] is before[register]) != is_saved:
                 raise Wrong(f"{register} after a call of another library")
-    cpu = made()
-    cpu.registers.update(rdi=address(Words("to", 64)), rsi=address(Numbers("m", bytes(16))), rdx=16)
+    cpu = new_processor()
+    cpu.registers.update(rdi=address(WordMemory("to", 64)), rsi=address(Numbers("m", bytes(16))), rdx=16)
     refuses(lambda: processor.call_of_outer("memcpy", cpu, None), "a call with the stack at no multiple of 16")
     cpu.push(ReturnTo("f", 4))
     for to in (address(cpu.stack, ENTRY - 512), address(Numbers("n", bytes(64))), address(cpu.stack, ENTRY - 264)):
@@ -189,7 +189,7 @@ def calls(draw):
         refuses(lambda: processor.call_of_outer("memcpy", cpu, None), "a copy to what a call may not write")
 
 
-def kept_values(draw):
+def saved_values(rng):
     """Compares the operators of terms and the callee-saved registers."""
     x, byte = symbol("a64", 64), operations.bits(symbol("a64", 64), 0, 8)
     for what, found, expected in (("<", byte < 256, True), ("<=", byte <= 255, True), (">", byte > 255, False),
@@ -204,9 +204,9 @@ def kept_values(draw):
                                   ("//", x // 8, x.values[0] // 8), ("|", byte | 256, byte.values[0] | 256)):
         expect(value_of(found), expected, f"{what} of terms")
     expect(operations.is_equal(x, x), True, "a term that is itself")
-    cpu = made()
-    cpu.expect_kept({"rbx": cpu.registers["rbx"]})
-    refuses(lambda: cpu.expect_kept({"rbx": symbol("other", 64)}), "another value of a register that is the caller's")
+    cpu = new_processor()
+    cpu.expect_unchanged({"rbx": cpu.registers["rbx"]})
+    refuses(lambda: cpu.expect_unchanged({"rbx": symbol("other", 64)}), "another value of a register that is the caller's")
 
 
-ALL = [registers, addresses, stack, calls, kept_values]
+ALL = [registers, addresses, stack, calls, saved_values]

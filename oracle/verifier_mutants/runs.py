@@ -11,7 +11,7 @@ import tempfile
 import time
 import traceback
 
-import antt
+from oracle import antt
 
 from . import edits, patches
 
@@ -29,7 +29,7 @@ class Known:
 
     def __init__(self, loader, folder):
         self.loader, self.objects = loader, {}
-        self.module = importlib.import_module("verifier_mutants.checks")
+        self.module = importlib.import_module("oracle.verifier_mutants.checks")
         self.checks = self.module.prepare(folder, self.objects)
         self.by_code = patches.functions_by_code()
         gc.collect()
@@ -47,7 +47,7 @@ class Coverage:
         for k, one in enumerate(known.checks):
             known.module.begin()
             began = time.process_time()
-            if one.kind == "planted":
+            if one.type == "planted":
                 self.frames[k] = frames_of(one.ask.args[0])
             else:
                 self.called[k] = codes_called(one.ask, files)
@@ -60,9 +60,9 @@ class Coverage:
 
     def chosen(self, checks, patch, one, is_warm):
         """Yields the numbers of the checks that may detect a mutant, the most likely ones first."""
-        for kind in BUDGET:
-            found = [k for k in self.called if checks[k].kind == kind and (not is_warm or self.called[k] & patch.keys)]
-            yield from self.within_budget(sorted(found, key=lambda k: self.seconds[k]), kind)
+        for check_type in BUDGET:
+            found = [k for k in self.called if checks[k].type == check_type and (not is_warm or self.called[k] & patch.keys)]
+            yield from self.within_budget(sorted(found, key=lambda k: self.seconds[k]), check_type)
         function, ranks = one.function.rpartition(".")[2], {}
         for k, frames in self.frames.items():
             here = [(at != one.line, name != function, i) for i, (path, name, at) in enumerate(frames)
@@ -71,11 +71,11 @@ class Coverage:
                 ranks[k] = min(here)
         yield from self.within_budget(sorted(ranks, key=ranks.get), "planted")
 
-    def within_budget(self, numbers, kind):
+    def within_budget(self, numbers, check_type):
         used = 0
         for count, k in enumerate(numbers):
             used += self.seconds[k]
-            if count and used > BUDGET[kind]:
+            if count and used > BUDGET[check_type]:
                 return
             yield k
 
@@ -97,7 +97,7 @@ def codes_called(ask, files):
 
 def frames_of(planted):
     """Runs a planted file's test. Returns where the refusal was raised: (file, function, line), the innermost first."""
-    from symbolic_terms import REFUSALS
+    from oracle.symbolic_terms import REFUSALS
     found = []
     try:
         planted.ask()
@@ -134,7 +134,7 @@ def outcome(known, coverage, one):
         try:
             checks[k].ask()
         except BaseException:
-            return checks[k].kind, checks[k].title, is_warm
+            return checks[k].type, checks[k].title, is_warm
     return UNDETECTED, "", is_warm
 
 

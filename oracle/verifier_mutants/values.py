@@ -3,18 +3,18 @@
 Each test takes a random generator and raises Wrong. The expected values are computed here, on numbers."""
 import operator
 
-import antt
-import table
-from machine_code import flags, memory as machine_memory, values
-from machine_code.flags import Flags
-from machine_code.values import Either, address
-from symbolic_terms import (BINARY, Input, Memory, Piece, Undecided, Unsupported, at_most, compare_numbers,
-                            divided,
-                            given, is_inside, is_natural, is_number, lifted, minus, nodes, operations, parts_of, plus,
-                            rotated, rules,
-                            self_tests, signed, symbol, times, value_at, variable, wrapped, zeros_below)
-from symbolic_terms import polynomials, words as symbolic_words
-from symbolic_terms.memory import in_order, outside, taken
+from oracle import antt
+from oracle import table
+from oracle.machine_code import flags, memory as machine_memory, values
+from oracle.machine_code.flags import Flags
+from oracle.machine_code.values import Either, address
+from oracle.symbolic_terms import (BINARY, Input, Memory, Piece, Undecided, Unsupported, at_most, compare_numbers,
+                                   divided,
+                                   given, is_inside, is_natural, is_number, lifted, minus, nodes, operations, parts_of, plus,
+                                   rotated, rules,
+                                   self_tests, signed, symbol, times, value_at, variable, wrapped, zeros_below)
+from oracle.symbolic_terms import polynomials, modular as symbolic_modular
+from oracle.symbolic_terms.memory import in_order, outside, taken
 
 EDGES = 0, 1, 2, 127, 128, 255, 256, (1 << 31) - 1, 1 << 31, (1 << 32) - 1, 1 << 32, (1 << 63) - 1, 1 << 63, (1 << 64) - 1
 
@@ -30,28 +30,28 @@ def expect(actual, expected, what):
         raise Wrong(f"{what}: {actual!r} and not {expected!r}")
 
 
-def refuses(call, what, kinds=(Undecided, Unsupported)):
+def refuses(call, what, errors=(Undecided, Unsupported)):
     """Checks that a call is refused."""
     try:
         call()
-    except kinds:
+    except errors:
         return
     raise Wrong(f"{what} isn't refused")
 
 
-def number(draw, width=64):
-    return (draw.choice(EDGES) if draw.random() < 0.4 else draw.getrandbits(draw.choice((3, 8, 16, 32,
+def number(rng, width=64):
+    return (rng.choice(EDGES) if rng.random() < 0.4 else rng.getrandbits(rng.choice((3, 8, 16, 32,
                                                                 64)))) % (1 << width)
 
 
 # ---- words
 
-def words(draw):
+def word_operations(rng):
     plain = {"add": operator.add, "sub": operator.sub, "mul": operator.mul, "xor": operator.xor, "or": operator.or_,
              "and": operator.and_}
     for _ in range(60):
-        width = draw.choice((8, 16, 32, 64))
-        a, b, k = number(draw, width), number(draw, width), draw.randrange(width)
+        width = rng.choice((8, 16, 32, 64))
+        a, b, k = number(rng, width), number(rng, width), rng.randrange(width)
         limit = 1 << width
         for name, on_numbers in plain.items():
             expect(BINARY[name](width, a, b), on_numbers(a, b) % limit, name)
@@ -97,27 +97,27 @@ def value_of(x, k=0):
 
 # ---- terms
 
-def terms(draw):
+def terms(rng):
     _, bad = self_tests.random_operations(None, 4)
     if bad:
         raise Wrong(bad[0])
 
 
-def shapes(draw):
+def shapes(rng):
     """Compares the widths and the bounds of terms with their values, and equal terms by two ways."""
     message = symbol("m", 8 * 64)
-    pool = [operations.bits(message, 8 * draw.randrange(40), draw.choice((8, 32, 64))) for _ in range(4)]
+    pool = [operations.bits(message, 8 * rng.randrange(40), rng.choice((8, 32, 64))) for _ in range(4)]
     for _ in range(120):
-        a, b, k, n = draw.choice(pool), draw.choice(pool), draw.randrange(64), draw.randrange(1, 65)
-        found = draw.choice((lambda: operations.add(a, b), lambda: operations.xor(a, b), lambda: operations.bits(a, k,
+        a, b, k, n = rng.choice(pool), rng.choice(pool), rng.randrange(64), rng.randrange(1, 65)
+        found = rng.choice((lambda: operations.add(a, b), lambda: operations.xor(a, b), lambda: operations.bits(a, k,
                                                                 n),
-                             lambda: operations.multiply_at(64, a, b), lambda: operations.multiply(a, number(draw)),
-                             lambda: operations.either(a, b), lambda: operations.both(a, number(draw)),
-                             lambda: operations.shift_right(a, k),
-                             lambda: operations.side_by_side((operations.bits(a, 0, 32), 32),
-                                                             (operations.bits(b, 0, 32), 32)),
-                             lambda: operations.add_at(64, (number(draw), a), (-1, b)),
-                             lambda: operations.add_at(32, (1 << k, a), (1, b), (number(draw), 1))))()
+                            lambda: operations.multiply_at(64, a, b), lambda: operations.multiply(a, number(rng)),
+                            lambda: operations.either(a, b), lambda: operations.both(a, number(rng)),
+                            lambda: operations.shift_right(a, k),
+                            lambda: operations.side_by_side((operations.bits(a, 0, 32), 32),
+                                                            (operations.bits(b, 0, 32), 32)),
+                            lambda: operations.add_at(64, (number(rng), a), (-1, b)),
+                            lambda: operations.add_at(32, (1 << k, a), (1, b), (number(rng), 1))))()
         if isinstance(found, int):
             continue
         for k in range(nodes.POINTS):
@@ -166,7 +166,7 @@ def shapes(draw):
     refuses(lambda: operations.is_below(254, operations.bits(x, 0, 8)), "254 below a byte")
 
 
-def wrong_rules(draw):
+def wrong_rules(rng):
     """Checks that results of another value are detected."""
     x, y = symbol("a64", 64), symbol("b64", 64)
     for name, answer, arguments in (("add", x, (x, y)), ("multiply_at", y, (64, x, y)), ("bits", x, (x, 0, 8)),
@@ -178,25 +178,25 @@ def wrong_rules(draw):
 
 # ---- polynomials
 
-def some_polynomial(draw, names="abc"):
-    out = draw.choice((0, 1, -1, 5, 64, -300))
-    for _ in range(draw.randrange(1, 4)):
-        c = draw.choice((1, -1, 2, 16, 64, -64, 1024, 3))
-        for name in draw.sample(names, draw.choice((1, 1, 2))):
+def some_polynomial(rng, names="abc"):
+    out = rng.choice((0, 1, -1, 5, 64, -300))
+    for _ in range(rng.randrange(1, 4)):
+        c = rng.choice((1, -1, 2, 16, 64, -64, 1024, 3))
+        for name in rng.sample(names, rng.choice((1, 1, 2))):
             c = times(c, variable(name))
         out = plus(out, c)
     return out
 
 
-def points(draw, count):
+def points(rng, count):
     for _ in range(count):
-        yield {name: draw.choice((0, 0, 1, 2, 3, 7, 15, 16, 63, 100, 1 << 20)) for name in "abc"}
+        yield {name: rng.choice((0, 0, 1, 2, 3, 7, 15, 16, 63, 100, 1 << 20)) for name in "abc"}
 
 
-def polynomial_values(draw):
+def polynomial_values(rng):
     for _ in range(60):
-        p, q = some_polynomial(draw), some_polynomial(draw)
-        for point in points(draw, 4):
+        p, q = some_polynomial(rng), some_polynomial(rng)
+        for point in points(rng, 4):
             a, b = value_at(p, point), value_at(q, point)
             for what, r, expected in (("plus", plus(p, q), a + b), ("minus", minus(p, q), a - b), ("times", times(p, q),
                                                                 a * b),
@@ -215,18 +215,18 @@ def polynomial_values(draw):
     expect(polynomials.names_of(plus(x, times(variable("b"), variable("c")))) == {"a", "b", "c"}, True, "the variables")
 
 
-def polynomial_facts(draw):
+def polynomial_facts(rng):
     """Compares decisions under facts with all small values of the variables."""
     a, b = variable("a"), variable("b")
     grid = [{"a": i, "b": j} for i in [*range(0, 12), 62, 63, 64, 65, 1000] for j in [*range(0, 12), 62, 63, 64, 65,
                                                                 1000]]
-    kinds = ((), (minus(a, 1),), (minus(b, 3),), (at_most(b, 9),), (at_most(b, 63), minus(a, 2)), (minus(a, b),),
-             (minus(a, plus(b, 1)), at_most(a, 64)),
-             (at_most(plus(a, b), 70),), (minus(minus(a, b), 5), minus(b, 1)))
-    for facts in kinds:
+    fact_sets = ((), (minus(a, 1),), (minus(b, 3),), (at_most(b, 9),), (at_most(b, 63), minus(a, 2)), (minus(a, b),),
+                 (minus(a, plus(b, 1)), at_most(a, 64)),
+                 (at_most(plus(a, b), 70),), (minus(minus(a, b), 5), minus(b, 1)))
+    for facts in fact_sets:
         inside = [point for point in grid if all(value_at(fact, point) >= 0 for fact in facts)]
         with given(*facts):
-            for x in [*(some_polynomial(draw, "ab") for _ in range(12)), a, minus(a, 1), minus(a, 2), minus(a, b),
+            for x in [*(some_polynomial(rng, "ab") for _ in range(12)), a, minus(a, 1), minus(a, 2), minus(a, b),
                       minus(b, a), minus(63, b), minus(62, b),
                       minus(9, b), minus(8, b), minus(minus(a, b), 1), minus(minus(a, b), 5), minus(minus(a, b), 6),
                       minus(b, 3), minus(b, 4), minus(a, 3),
@@ -267,7 +267,7 @@ def polynomial_facts(draw):
     expect(is_natural(minus(a, 1)), False, "a fact that remains")
 
 
-def polynomial_words(draw):
+def polynomial_operations(rng):
     a, b = variable("a"), variable("b")
     with given(at_most(a, 1000), at_most(b, 63)):
         for x in (plus(a, b), plus(times(64, a), 3), minus(1000, a), plus(times(1 << 20, a), b)):
@@ -295,7 +295,7 @@ def polynomial_words(draw):
 
 # ---- values of registers
 
-def registers(draw):
+def registers(rng):
     """Tests arithmetic of addresses, polynomials and united numbers."""
     first, second, n = Input("first", 1000), Input("second", 1000), variable("n")
     first.alignment = 16
@@ -353,7 +353,7 @@ def registers(draw):
         expect(Either([n], 0xFFFF).moved_down(8).mask, 0xFF00, "a mask moved down")
         refuses(lambda: values.arithmetic("add", 64, united, 1), "a sum of united numbers")
     x, y = symbol("a64", 64), symbol("b64", 64)
-    for a, b in ((x, y), (x, 0x9E3779B185EBCA87), (number(draw), y), (number(draw), number(draw))):
+    for a, b in ((x, y), (x, 0x9E3779B185EBCA87), (number(rng), y), (number(rng), number(rng))):
         above, below = values.high_and_low(a, b)
         expect(value_of(above) << 64 | value_of(below), value_of(a) * value_of(b), "a product of two words")
     expect(value_of(values.bits(x, 8, 16)), x.values[0] >> 8 & 0xFFFF, "bits")
@@ -387,13 +387,13 @@ def condition(name, now):
     return flags.condition(Cpu(now), name)
 
 
-def flag_values(draw):
+def flag_values(rng):
     for _ in range(80):
-        width = draw.choice((8, 32, 64))
-        limit, a, b = 1 << width, number(draw, width), number(draw, width)
-        b = a if draw.random() < 0.3 else b
+        width = rng.choice((8, 32, 64))
+        limit, a, b = 1 << width, number(rng, width), number(rng, width)
+        b = a if rng.random() < 0.3 else b
         c, d = (n - limit if n >= limit // 2 else n for n in (a, b))
-        now = Flags("sub", width, a, b, draw.choice((None, (a - b) % limit)))
+        now = Flags("sub", width, a, b, rng.choice((None, (a - b) % limit)))
         for name, holds in (("e", a == b), ("ne", a != b), ("b", a < b), ("ae", a >= b), ("a", a > b), ("be", a <= b),
                             ("l", c < d),
                             ("ge", c >= d), ("g", c > d), ("le", c <= d)):
@@ -445,8 +445,8 @@ def flag_values(draw):
             expect(condition("b", Flags("sub", 64, 26, shifted, None)), False, "a number above a shifted one")
 
 
-def flags_of_addresses(draw):
-    first, second = machine_memory.Words("first", 100, alignment=8), Input("second", 100)
+def flags_of_addresses(rng):
+    first, second = machine_memory.WordMemory("first", 100, alignment=8), Input("second", 100)
     third, stack = Input("third", 100), machine_memory.Stack()
     at = address(first, 40)
     for b, name, holds in ((address(first, 40), "e", True), (address(first, 41), "e", False), (address(first, 41), "b",
@@ -476,44 +476,44 @@ def flags_of_addresses(draw):
 
 # ---- memory
 
-def memory(draw):
-    for kind in (Memory, machine_memory.Words):
+def memory(rng):
+    for memory_class in (Memory, machine_memory.WordMemory):
         size = 64
-        room, data = kind("room", size, [(k, 1, k) for k in range(size)], alignment=8), bytearray(range(size))
+        buffer, data = memory_class("room", size, [(k, 1, k) for k in range(size)], alignment=8), bytearray(range(size))
         for turn in range(60):
-            n = draw.choice((1, 2, 4, 8, 16, 32))
-            at = draw.randrange(size - n + 1)
-            if draw.random() < 0.5:
-                value = draw.getrandbits(8 * n)
-                x = symbol(f"x{turn}:{n}", 8 * n) if draw.random() < 0.4 and n <= 8 else value
-                room.store(at, n, x)
+            n = rng.choice((1, 2, 4, 8, 16, 32))
+            at = rng.randrange(size - n + 1)
+            if rng.random() < 0.5:
+                value = rng.getrandbits(8 * n)
+                x = symbol(f"x{turn}:{n}", 8 * n) if rng.random() < 0.4 and n <= 8 else value
+                buffer.store(at, n, x)
                 data[at:at + n] = value_of(x).to_bytes(n, "little")
             else:
-                expect(value_of(room.load(at, n)), int.from_bytes(data[at:at + n], "little"),
-                       f"a load of {kind.__name__}")
+                expect(value_of(buffer.load(at, n)), int.from_bytes(data[at:at + n], "little"),
+                       f"a load of {memory_class.__name__}")
         for at in range(size):
-            expect(value_of(room.load(at, 1)), data[at], "a byte")
-            expect(room.has(at), True, "a stored byte")
+            expect(value_of(buffer.load(at, 1)), data[at], "a byte")
+            expect(buffer.has(at), True, "a stored byte")
         for at, n in ((-1, 1), (size, 1), (size - 7, 8), (-4, 8)):
-            refuses(lambda: room.load(at, n), f"a load at {at}")
-            refuses(lambda: room.store(at, n, 0), f"a store at {at}")
-        refuses(lambda: room.store(variable("n"), 1, 0), "a store at a symbol")
-        room = kind("room", size, [(0, 8, 5)])
-        refuses(lambda: room.load(8, 1), "a byte that was never stored")
-        refuses(lambda: room.load(4, 8), "bytes that weren't all stored")
-        refuses(lambda: room.load(9, 4), "bytes that were never stored")
-        expect(room.has(7) and not room.has(8), True, "stored bytes")
-        expect(room.load(2, 4), 0, "a part of a cell")
-    room = machine_memory.Words("room", 64)
+            refuses(lambda: buffer.load(at, n), f"a load at {at}")
+            refuses(lambda: buffer.store(at, n, 0), f"a store at {at}")
+        refuses(lambda: buffer.store(variable("n"), 1, 0), "a store at a symbol")
+        buffer = memory_class("room", size, [(0, 8, 5)])
+        refuses(lambda: buffer.load(8, 1), "a byte that was never stored")
+        refuses(lambda: buffer.load(4, 8), "bytes that weren't all stored")
+        refuses(lambda: buffer.load(9, 4), "bytes that were never stored")
+        expect(buffer.has(7) and not buffer.has(8), True, "stored bytes")
+        expect(buffer.load(2, 4), 0, "a part of a cell")
+    buffer = machine_memory.WordMemory("room", 64)
     n = variable("n")
     with given(at_most(n, 1000)):
-        room.store(8, 8, plus(times(256, n), 7))
-        expect(polynomials.is_same_number(room.load(8, 8), plus(times(256, n), 7)), True, "a number")
-        expect(room.load(8, 1), 7, "a byte of a number")
-        expect(polynomials.is_same_number(room.load(9, 7), n), True, "the upper bytes of a number")
-        room.store(16, 8, address(room, 3))
-        expect(room.load(16, 8).place() == (room, 3), True, "an address")
-        refuses(lambda: room.load(16, 4), "a part of an address")
+        buffer.store(8, 8, plus(times(256, n), 7))
+        expect(polynomials.is_same_number(buffer.load(8, 8), plus(times(256, n), 7)), True, "a number")
+        expect(buffer.load(8, 1), 7, "a byte of a number")
+        expect(polynomials.is_same_number(buffer.load(9, 7), n), True, "the upper bytes of a number")
+        buffer.store(16, 8, address(buffer, 3))
+        expect(buffer.load(16, 8).place() == (buffer, 3), True, "an address")
+        refuses(lambda: buffer.load(16, 4), "a part of an address")
     stack = machine_memory.Stack()
     stack.store(machine_memory.ENTRY - 8, 8, 7)
     expect(stack.lowest, machine_memory.ENTRY - 8, "the lowest store")
@@ -527,18 +527,18 @@ def memory(draw):
     expect(stack.load(machine_memory.ENTRY - 8, 8), 7, "a byte above")
     expect(stack.load(machine_memory.ENTRY - 16, 8), 9, "a byte above")
     refuses(lambda: machine_memory.OnlyRead("read", 8, [(0, 8, 5)]).store(0, 8, 1), "a store to what is read")
-    expect(machine_memory.lie_apart(room, Input("m", 5)) and machine_memory.lie_apart(Input("m", 5), room), True,
+    expect(machine_memory.lie_apart(buffer, Input("m", 5)) and machine_memory.lie_apart(Input("m", 5), buffer), True,
            "objects apart")
     expect(machine_memory.lie_apart(Input("m", 5), machine_memory.OnlyRead("read", 8)), False,
            "objects that may overlap")
 
 
-def copies(draw):
-    for source_kind in ("words", "input"):
-        data = draw.randbytes(64)
-        to = machine_memory.Words("to", 64, alignment=8)
-        source = machine_memory.Words("from", 64, [(k, 1, byte) for k,
-                                                   byte in enumerate(data)]) if source_kind == "words" else \
+def copies(rng):
+    for source_type in ("words", "input"):
+        data = rng.randbytes(64)
+        to = machine_memory.WordMemory("to", 64, alignment=8)
+        source = machine_memory.WordMemory("from", 64, [(k, 1, byte) for k,
+                                                        byte in enumerate(data)]) if source_type == "words" else \
             machine_memory.Numbers("from", data)
         for at, first, n in ((0, 0, 64), (3, 5, 17), (8, 8, 8), (1, 0, 0)):
             machine_memory.copy(address(to, at), address(source, first), n, False)
@@ -576,7 +576,7 @@ def rests_of_runs(message, n):
     expect(outside((n, plus(n, 6), message, 0), 0, 7) == [], True, "a run that may be written over")
 
 
-def inputs(draw):
+def inputs(rng):
     n = variable("n")
     message = Input("m", plus(times(64, n), 10))
     with given(minus(n, 1), at_most(n, 100)):
@@ -595,37 +595,37 @@ def inputs(draw):
             expect(nodes.is_same(piece.load(1, 8), message.load(65, 8)), True, "bytes of a chunk")
             refuses(lambda: piece.load(times(64, minus(n, 1)), 1), "a byte behind a chunk")
         refuses(lambda: message.store(0, 1, 0), "a store to an input")
-        room = Memory("room", 512)
-        room.put_run(0, plus(n, 5), message, 3)
-        expect(nodes.is_same(room.load(1, 4), message.load(4, 4)), True, "a run's bytes")
-        expect(room.origin(1, 2) == (message, 4), True, "a run's origin")
-        refuses(lambda: room.load(5, 2), "bytes behind a run")
-        refuses(lambda: room.origin(4, 3), "bytes behind a run")
-        refuses(lambda: room.store(2, 1, 0), "a store into a run")
-        expect(room.has_run((0, plus(n, 5), message, 3)), True, "a run")
+        buffer = Memory("room", 512)
+        buffer.put_run(0, plus(n, 5), message, 3)
+        expect(nodes.is_same(buffer.load(1, 4), message.load(4, 4)), True, "a run's bytes")
+        expect(buffer.origin(1, 2) == (message, 4), True, "a run's origin")
+        refuses(lambda: buffer.load(5, 2), "bytes behind a run")
+        refuses(lambda: buffer.origin(4, 3), "bytes behind a run")
+        refuses(lambda: buffer.store(2, 1, 0), "a store into a run")
+        expect(buffer.has_run((0, plus(n, 5), message, 3)), True, "a run")
         for run in ((0, plus(n, 6), message, 3), (0, plus(n, 5), message, 4), (0, plus(n, 5), Input("o", 600), 3)):
-            expect(room.has_run(run), False, "another run")
-        room.put_run(plus(n, 5), 7, message, plus(n, 8))
-        expect(room.has_run((0, plus(n, 12), message, 3)), True, "a run that goes on")
-        room.put_run(0, 3, Input("o", 600), 0)
-        expect(room.has_run((3, plus(n, 12), message, 3)), True, "the rest of a run")
-        expect(room.has_run((0, plus(n, 12), message, 3)), False, "a run that was written over")
-        refuses(lambda: room.put_run(500, plus(n, 12), message, 0), "a run behind the end")
+            expect(buffer.has_run(run), False, "another run")
+        buffer.put_run(plus(n, 5), 7, message, plus(n, 8))
+        expect(buffer.has_run((0, plus(n, 12), message, 3)), True, "a run that goes on")
+        buffer.put_run(0, 3, Input("o", 600), 0)
+        expect(buffer.has_run((3, plus(n, 12), message, 3)), True, "the rest of a run")
+        expect(buffer.has_run((0, plus(n, 12), message, 3)), False, "a run that was written over")
+        refuses(lambda: buffer.put_run(500, plus(n, 12), message, 0), "a run behind the end")
         expect(in_order(3, 5) == (3, 5) and in_order(5, 3) == (3, 5), True, "the order of two")
         refuses(lambda: in_order(n, 5), "an undecided order")
         rests_of_runs(message, n)
     for at, size, length, expected in ((0, 8, 8, True), (1, 8, 8, False), (-1, 2, 8, False), (8, 0, 8, True),
                                        (7, 1, 8, True), (8, 1, 8, False)):
         expect(is_inside(at, size, length), expected, "inside")
-    room = Memory("room", 64, [(k, 1, k) for k in (0, 1, 2, 3, 4, 5, 6, 7, 8, 10, 12)])
-    expect([one[:2] for one in taken(room, 0, 16)] == [(0, 8), (8, 1), (10, 1), (12, 1)], True, "bytes taken")
+    buffer = Memory("room", 64, [(k, 1, k) for k in (0, 1, 2, 3, 4, 5, 6, 7, 8, 10, 12)])
+    expect([one[:2] for one in taken(buffer, 0, 16)] == [(0, 8), (8, 1), (10, 1), (12, 1)], True, "bytes taken")
 
 
 # ---- the definition
 
-def definition(draw):
+def definition(rng):
     """Evaluates the definitions on test vectors of the reference library, with the evaluator's own library."""
-    from symbolic_terms import definition as symbolic
+    from oracle.symbolic_terms import definition as symbolic
     cases = [case for case in map(table.Case, table.lines()[::211]) if case.length <= 600]
     entries = symbolic.read().run()
     for case in cases:
@@ -648,7 +648,7 @@ def definition(draw):
         expect(antt.OPERATORS[name](a, b), expected, name)
 
 
-ALL = [words, terms, shapes, wrong_rules, polynomial_values, polynomial_facts, polynomial_words, registers, flag_values,
+ALL = [word_operations, terms, shapes, wrong_rules, polynomial_values, polynomial_facts, polynomial_operations, registers, flag_values,
        flags_of_addresses,
        memory, copies, inputs, definition]
-assert symbolic_words
+assert symbolic_modular

@@ -8,7 +8,7 @@ import os
 import re
 import tempfile
 
-from symbolic_terms import Unsupported
+from oracle.symbolic_terms import Unsupported
 
 from .. import executions, mutation
 from . import objects
@@ -36,7 +36,7 @@ class Library(executions.Library):
         self.program = program
 
     def with_bit(self, text):
-        """Returns what differs if a bit of an instruction is inverted, or an empty string. `text` is that of `drawn`."""
+        """Returns what differs if a bit of an instruction is inverted, or an empty string. `text` is that of `random_changes`."""
         section, at, bit = re.match(r"(\S+) (0x\w+) .*: bit (\d+) ", text).groups()
         section, at = f".text.{section}", int(at, 16)
         head, lines = self.program.heads[section], list(self.lines)
@@ -77,9 +77,9 @@ class Changed:
         file.write(bytes([byte]))
 
     def listed(self, section, at):
-        words = f"--section={section}", f"--start-address={at}", f"--stop-address={at + SIZE}"
+        options = f"--section={section}", f"--start-address={at}", f"--stop-address={at + SIZE}"
         try:
-            (_, _, text), = listing(self.path, *words)[section]
+            (_, _, text), = listing(self.path, *options)[section]
             x = self.program.instruction(section, at, text, self.relocations_of(section).get(at))
         except (Unsupported, ValueError):
             return None
@@ -91,12 +91,12 @@ class Changed:
         return self.relocations[section]
 
 
-def drawn(changed, places, draw):
+def random_changes(changed, places, rng):
     """Yields an endless sequence of random changes: (place, text, instructions). Skips instructions that compute
     nothing, and shifts by 0."""
     while True:
-        section, at = place = draw.choice(places)
-        x, bit = changed.program.sections[section][at], draw.randrange(BITS)
+        section, at = place = rng.choice(places)
+        x, bit = changed.program.sections[section][at], rng.randrange(BITS)
         found = changed.instruction(place, bit) if x.mnemonic not in ("prfm", "brk") else None
         if found and found != x and not any(isinstance(y, Shift) and not y.amount for y in found.operands):
             yield place, f"{section[6:]} {at:#x} {written(x)}: bit {bit} {written(found)}", [found]
@@ -117,7 +117,7 @@ def noticed(program, part):
     is_all = part is not None
     with tempfile.TemporaryDirectory(prefix="arm-text-") as workdir:
         changed = Changed(program, os.path.join(workdir, "text.o"))
-        some = mutation.of_draws(functools.partial(drawn, changed), MANY if is_all else FEW)
+        some = mutation.of_seeds(functools.partial(random_changes, changed), MANY if is_all else FEW)
         some = mutation.part_of(some, part) if is_all else some
         library = Library(program, os.path.join(workdir, "library"))
         return mutation.noticed_by_calls(Processor(program), some, is_all, lambda text, _: library.with_bit(text))

@@ -2,7 +2,7 @@
 import collections
 import re
 
-from symbolic_terms import Unsupported
+from oracle.symbolic_terms import Unsupported
 
 from .. import objects
 from ..disassembly import expect_bytes
@@ -14,7 +14,7 @@ Instruction = collections.namedtuple("Instruction", "section at end mnemonic for
 Register = collections.namedtuple("Register", "name width")            # x0 and w0, xzr, sp
 Vector = collections.namedtuple("Vector", "number arrangement lane")   # q0 is (0, "q", None), v0.d[1] is (0, "d", 1)
 Immediate = collections.namedtuple("Immediate", "value")
-Shift = collections.namedtuple("Shift", "kind amount")
+Shift = collections.namedtuple("Shift", "op amount")
 Place = collections.namedtuple("Place", "base index offset mode")      # mode: offset, before or after
 
 PAGE, LOW_ADD, JUMP, CALL, LOW_64, LOW_128 = 275, 277, 282, 283, 286, 299      # relocation types
@@ -47,10 +47,10 @@ class Program(Loaded):
     def relocations_of(self, section):
         """Maps each place to its relocation: (type, target)."""
         found = {}
-        for place, kind, symbol, addend in self.relocations_in(section):
-            if kind not in OF_RELOCATION or place in found:
-                raise Unsupported(f"a relocation of kind {kind} at {place:#x} of {section.name}")
-            found[place] = kind, self.target_of(symbol, addend)
+        for place, r_type, symbol, addend in self.relocations_in(section):
+            if r_type not in OF_RELOCATION or place in found:
+                raise Unsupported(f"a relocation of kind {r_type} at {place:#x} of {section.name}")
+            found[place] = r_type, self.target_of(symbol, addend)
         return found
 
     # ---- instructions
@@ -70,17 +70,17 @@ class Program(Loaded):
 
     def instruction(self, section, at, text, relocation):
         mnemonic, *rest = text.split("//")[0].split(None, 1)
-        words = split(re.sub(r" *<[^>]*>", "", rest[0].strip())) if rest else []
+        parts = split(re.sub(r" *<[^>]*>", "", rest[0].strip())) if rest else []
         is_jump, target = JUMPS.fullmatch(mnemonic) is not None, None
-        to, words = (int(words[-1], 16), words[:-1]) if is_jump or mnemonic == "adrp" else (None, words)
-        found = [operand(word) for word in words]
+        to, parts = (int(parts[-1], 16), parts[:-1]) if is_jump or mnemonic == "adrp" else (None, parts)
+        found = [operand(word) for word in parts]
         if relocation:
-            kind, target = relocation
-            if OF_RELOCATION[kind] != mnemonic:
-                raise Unsupported(f"{section} {at:#x}: {text} with a relocation of kind {kind}")
-            if kind not in (PAGE, JUMP, CALL):
+            r_type, target = relocation
+            if OF_RELOCATION[r_type] != mnemonic:
+                raise Unsupported(f"{section} {at:#x}: {text} with a relocation of kind {r_type}")
+            if r_type not in (PAGE, JUMP, CALL):
                 found = without_offset(found)
-                self.expect_multiple(target, MULTIPLES.get(kind, 1))
+                self.expect_multiple(target, MULTIPLES.get(r_type, 1))
         elif is_jump:
             target = section, to
         elif mnemonic == "adrp":
@@ -162,7 +162,7 @@ def word_of(x):
     if isinstance(x, Vector):
         return x.arrangement + ("[]" if x.lane is not None else "")
     if isinstance(x, Shift):
-        return x.kind
+        return x.op
     if isinstance(x, Place):
         return "m"
     return "i" if isinstance(x, Immediate) else "c" if x in CONDITIONS else "p"

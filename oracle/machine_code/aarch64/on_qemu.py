@@ -6,7 +6,7 @@ import struct
 import subprocess
 import tempfile
 
-from ..memory import Words
+from ..memory import WordMemory
 from ..values import Address, address
 from .objects import CONDITIONS, Program
 from .table import TABLE, Processor
@@ -166,15 +166,15 @@ def all_tests():
 
 # ---- both runs
 
-def inputs(draw):
+def inputs(rng):
     """Yields edge cases and random numbers for x3 .. x7, v1 .. v4 and the memory."""
     edges = [0, 1, 2, 63, 64, 1 << 31, (1 << 32) - 1, 1 << 32, 1 << 63, (1 << 64) - 1]
     for _ in range(SETS):
-        numbers = [draw.choice([*edges, draw.getrandbits(64), draw.getrandbits(64), draw.getrandbits(32)]) for _ in range(5)]
-        if draw.random() < 0.3:
+        numbers = [rng.choice([*edges, rng.getrandbits(64), rng.getrandbits(64), rng.getrandbits(32)]) for _ in range(5)]
+        if rng.random() < 0.3:
             numbers[3] = numbers[2]
-        lanes = [draw.choice([*edges, *(draw.getrandbits(64) for _ in range(6))]) for _ in range(8)]
-        yield numbers, lanes, draw.randbytes(MEMORY)
+        lanes = [rng.choice([*edges, *(rng.getrandbits(64) for _ in range(6))]) for _ in range(8)]
+        yield numbers, lanes, rng.randbytes(MEMORY)
 
 
 def lines(text):
@@ -188,20 +188,20 @@ def assembled(text, path):
     return f"{path}.o"
 
 
-def by_qemu(tests, sets, room):
-    with open(f"{room}/inputs", "wb") as file:
+def by_qemu(tests, sets, workdir):
+    with open(f"{workdir}/inputs", "wb") as file:
         for numbers, lanes, memory in sets:
             file.write(struct.pack("<14Q", *numbers, 0, *lanes) + memory)
     body = "".join(BEGIN.format(sets=SETS, base=BASE) + lines(text) + END.format(size=INPUT) for _, text in tests)
-    path = assembled(FRAME.format(tests=body, inputs=f"{room}/inputs", memory=MEMORY,
-                                  outputs=OUTPUT * SETS * len(tests)), f"{room}/program")
-    subprocess.run(["aarch64-linux-gnu-ld", "-o", f"{room}/program", path], check=True)
-    told = subprocess.run(["qemu-aarch64", f"{room}/program"], check=True, stdout=subprocess.PIPE).stdout
-    if len(told) != OUTPUT * SETS * len(tests):
-        raise SystemExit(f"the program told {len(told)} bytes")
-    for at in range(0, len(told), OUTPUT):
-        values = struct.unpack_from("<16Q", told, at)
-        yield values[:6], values[6], values[8:], told[at + OUTPUT - MEMORY:at + OUTPUT]
+    path = assembled(FRAME.format(tests=body, inputs=f"{workdir}/inputs", memory=MEMORY,
+                                  outputs=OUTPUT * SETS * len(tests)), f"{workdir}/program")
+    subprocess.run(["aarch64-linux-gnu-ld", "-o", f"{workdir}/program", path], check=True)
+    output = subprocess.run(["qemu-aarch64", f"{workdir}/program"], check=True, stdout=subprocess.PIPE).stdout
+    if len(output) != OUTPUT * SETS * len(tests):
+        raise SystemExit(f"the program told {len(output)} bytes")
+    for at in range(0, len(output), OUTPUT):
+        values = struct.unpack_from("<16Q", output, at)
+        yield values[:6], values[6], values[8:], output[at + OUTPUT - MEMORY:at + OUTPUT]
 
 
 class Tests(Program):
@@ -211,10 +211,10 @@ class Tests(Program):
         pass
 
 
-def by_table(tests, sets, room):
+def by_table(tests, sets, workdir):
     """Yields the results by the table: the tests follow one another in an object."""
     text = "\t.text\n" + "".join(f"t{k}:\n{lines(text)}\n" for k, (_, text) in enumerate(tests)) + "end:\n\tnop\n"
-    program = Tests(assembled(text, f"{room}/tests"))
+    program = Tests(assembled(text, f"{workdir}/tests"))
     begins = [symbol.value for symbol in program.object.symbols if re.fullmatch(r"t\d+|end", symbol.name)]
     for first, end in zip(sorted(begins), sorted(begins)[1:]):
         for numbers, lanes, memory in sets:
@@ -224,15 +224,15 @@ def by_table(tests, sets, room):
 def run(program, place, end, numbers, lanes, memory):
     cpu = Processor(program)
     cpu.prepare()
-    room = Words("memory", MEMORY, [(k, 1, byte) for k, byte in enumerate(memory)], alignment=16)
-    cpu.registers.update({f"x{k}": x for k, x in zip(REGISTERS, numbers)}, x8=address(room, BASE))
+    buffer = WordMemory("memory", MEMORY, [(k, 1, byte) for k, byte in enumerate(memory)], alignment=16)
+    cpu.registers.update({f"x{k}": x for k, x in zip(REGISTERS, numbers)}, x8=address(buffer, BASE))
     for k, pair in zip(LANES, zip(lanes[::2], lanes[1::2])):
         cpu.vectors[k] = list(pair)
     while place != end:
         place = cpu.step(place)
     where = cpu.registers["x8"]
     registers = [cpu.registers[f"x{k}"] for k in REGISTERS] + [where.offset if isinstance(where, Address) else where]
-    return registers, cpu, [x for k in LANES for x in cpu.vectors[k]], bytes(room.load(k, 1) for k in range(MEMORY))
+    return registers, cpu, [x for k in LANES for x in cpu.vectors[k]], bytes(buffer.load(k, 1) for k in range(MEMORY))
 
 
 def same_flags(cpu, nzcv):
@@ -245,13 +245,13 @@ def same_flags(cpu, nzcv):
     return all(bool(NZCV[name](nzcv)) == cpu.test(name) and cpu.test(name) != cpu.test(NOT[name]) for name in names)
 
 
-def tell():
+def report():
     """Compares each form of the table with qemu. Returns the counts and the failures."""
     tests, sets = all_tests(), list(inputs(random.Random(5)))
-    with tempfile.TemporaryDirectory(prefix="on-qemu-") as room:
-        told = zip(by_qemu(tests, sets, room), by_table(tests, sets, room), strict=True)
+    with tempfile.TemporaryDirectory(prefix="on-qemu-") as workdir:
+        outputs = zip(by_qemu(tests, sets, workdir), by_table(tests, sets, workdir), strict=True)
         bad, count = [], 0
-        for (registers, nzcv, lanes, memory), (ours, cpu, our_lanes, our_memory) in told:
+        for (registers, nzcv, lanes, memory), (ours, cpu, our_lanes, our_memory) in outputs:
             is_same = list(registers) == ours and list(lanes) == our_lanes and memory == our_memory
             if not is_same or not same_flags(cpu, nzcv):
                 bad.append(f"{tests[count // SETS][1]}: {ours} {our_lanes} here and {registers} {lanes} by qemu")

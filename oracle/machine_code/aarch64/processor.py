@@ -2,10 +2,10 @@
 for x86-64. A call leaves the return address in a register."""
 import operator
 
-from symbolic_terms import TESTS, Undecided, Unsupported, is_number, is_same_number, plus, signed
+from oracle.symbolic_terms import TESTS, Undecided, Unsupported, is_number, is_same_number, plus, signed
 
 from ..flags import is_below, is_equal
-from ..memory import ENTRY, Stack, Words, copy, fill
+from ..memory import ENTRY, Stack, WordMemory, copy, fill
 from ..object_contents import OUTER
 from ..processor import Runner
 from ..values import WORD, Address, address, arithmetic, is_term, joined, low, place_of
@@ -53,9 +53,9 @@ class Processor(Runner):
 
     REGISTERS = [f"x{k}" for k in range(31)]
     ARGUMENTS, SCRATCH = REGISTERS[:8], REGISTERS[:19]
-    KEPT = REGISTERS[19:]                         # callee-saved registers, and the one for the return address
+    CALLEE_SAVED = REGISTERS[19:]                         # callee-saved registers, and the one for the return address
     LINK, STACK_POINTER = "x30", "sp"
-    VECTORS, KEPT_LANES = 32, range(8, 16)        # number of vectors, and those whose lower lane is callee-saved
+    VECTORS, CALLEE_SAVED_LANES = 32, range(8, 16)        # number of vectors, and those whose lower lane is callee-saved
     TAKES_STRIPES = ARGUMENTS[:6]                 # of a function that takes stripes and returns a record
     TOGETHER = 1, 2
     carry = None                                  # unused: `flags` includes the carry
@@ -84,10 +84,10 @@ class Processor(Runner):
         for register, x in zip(into, arguments):
             value, width = x if isinstance(x, tuple) else (x, WORD)
             self.registers[register] = value if width == WORD else joined((value, 32), (self.fresh(register, 32), 32))
-        kept, self.count = {name: self.registers[name] for name in self.KEPT}, 0
-        lanes = {k: self.vectors[k][0] for k in self.KEPT_LANES}
+        saved, self.count = {name: self.registers[name] for name in self.CALLEE_SAVED}, 0
+        lanes = {k: self.vectors[k][0] for k in self.CALLEE_SAVED_LANES}
         self.run(self.program.function(name))
-        self.expect_kept(kept)
+        self.expect_unchanged(saved)
         if any(self.vectors[k][0] is not x for k, x in lanes.items()):
             raise Unsupported("a vector isn't the caller's at the end")
         if self.registers["sp"].place() != (self.stack, ENTRY):
@@ -129,9 +129,9 @@ class Processor(Runner):
         memory, at = self.registers["sp"].place()
         memory.forget_below(at)
         if not is_same_number(n, 0):
-            room, first = place_of(to)
-            if not isinstance(room, Words) or room is memory and not (isinstance(first, int) and first >= at):
-                raise Unsupported(f"a copy to {room.name}")
+            target, first = place_of(to)
+            if not isinstance(target, WordMemory) or target is memory and not (isinstance(first, int) and first >= at):
+                raise Unsupported(f"a copy to {target.name}")
         fill(to, source, n) if name == "memset" else copy(to, source, n, name == "memmove")
         place = self.return_from_another()
         self.registers[self.ARGUMENTS[0]] = to
@@ -153,7 +153,7 @@ class Processor(Runner):
         memory.forget_below(at)
         self.registers.update({name: self.fresh(name) for name in self.SCRATCH})
         for k, lanes in enumerate(self.vectors):
-            self.vectors[k] = [lanes[0] if k in self.KEPT_LANES else self.fresh(f"v{k}"), self.fresh(f"v{k}")]
+            self.vectors[k] = [lanes[0] if k in self.CALLEE_SAVED_LANES else self.fresh(f"v{k}"), self.fresh(f"v{k}")]
         self.flags = None
         return self.return_place()
 
@@ -213,29 +213,29 @@ class Processor(Runner):
         one more."""
         if self.flags is None:
             raise Unsupported("flags that aren't set")
-        kind, width, a, b, answer = self.flags
+        op, width, a, b, answer = self.flags
         if name in SIGNED:
             return SIGNED[name](*self.signed_operands())
         if name in ("eq", "ne"):
-            if kind == "sub" and is_term(a) and is_term(b):                   # they are equal if no bit differs
-                kind, answer = "xor", arithmetic("xor", width, a, b)
-            return (is_equal(self, a, b) if kind == "sub" else is_equal(self, answer, 0)) == (name == "eq")
-        if kind == "and":                                   # there is no carry
+            if op == "sub" and is_term(a) and is_term(b):                   # they are equal if no bit differs
+                op, answer = "xor", arithmetic("xor", width, a, b)
+            return (is_equal(self, a, b) if op == "sub" else is_equal(self, answer, 0)) == (name == "eq")
+        if op == "and":                                   # there is no carry
             return name in ("cc", "ls")
-        if kind == "add" and name in ("cs", "cc") and is_number(a) and is_number(b):
+        if op == "add" and name in ("cs", "cc") and is_number(a) and is_number(b):
             return TESTS["ge"](plus(a, b), 1 << width) == (name == "cs")
-        if kind in ("sub", "borrow") and name in ("cs", "cc"):
+        if op in ("sub", "borrow") and name in ("cs", "cc"):
             return is_below(self, a, b) == (name == "cc")
-        if kind != "sub":
+        if op != "sub":
             raise Undecided(f"{name} of a sum, or with a borrow")
         return is_below(self, a, plus(b, 1) if is_number(b) else b) == (name == "ls")
 
     def signed_operands(self):
         """Returns the operands of the last comparison, as signed numbers."""
-        kind, width, a, b, answer = self.flags
-        if kind not in ("sub", "and"):
+        op, width, a, b, answer = self.flags
+        if op not in ("sub", "and"):
             raise Unsupported("a signed comparison of another result")
-        both = (a, b) if kind == "sub" else (answer, 0)
+        both = (a, b) if op == "sub" else (answer, 0)
         if not all(isinstance(x, int) for x in both):
             raise Undecided("a signed comparison of symbols")
         return [signed(x % (1 << width), width) for x in both]

@@ -1,5 +1,5 @@
 """Fills the table of instructions."""
-from . import vectors, words
+from . import scalar, vectors
 from .processor import TABLE, Processor
 
-__all__ = ["TABLE", "Processor", "vectors", "words"]
+__all__ = ["TABLE", "Processor", "scalar", "vectors"]

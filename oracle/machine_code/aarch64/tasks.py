@@ -3,8 +3,8 @@ import functools
 import os
 import types
 
-from symbolic_terms import TOP, comparison, cuts
-from symbolic_terms.processes import Task
+from oracle.symbolic_terms import TOP, comparison, cuts
+from oracle.symbolic_terms.processes import Task
 
 from .. import (calls, cargo_tasks, every_length, exports, planted_checks, planted_lines, planted_objects, removed,
                 self_tests, streams)
@@ -26,20 +26,20 @@ def program():
 
 
 def choose(given, found):
-    out, made = [], {cargo.NAME: functools.partial(Processor, found)}
-    for kind in comparison.kinds(SECRETS):
-        lengths = range(301) if given.all or kind[2] != SECRETS[1] else range(0, 301, 20)
-        out.append(shared.one_by_one(made, kind, lengths, ", one-shots"))
-        if given.all and kind[2] is None and kind[0].startswith("3-"):
+    out, processors = [], {cargo.NAME: functools.partial(Processor, found)}
+    for algorithm in comparison.algorithms(SECRETS):
+        lengths = range(301) if given.all or algorithm[2] != SECRETS[1] else range(0, 301, 20)
+        out.append(shared.one_by_one(processors, algorithm, lengths, ", one-shots"))
+        if given.all and algorithm[2] is None and algorithm[0].startswith("3-"):
             asked = [*shared.MORE, every_length.PREFETCHED]
-            out.append(shared.one_by_one(made, kind, asked, ", one-shots"))
-        if kind[2] != SECRETS[1]:
-            asked = cuts.streams(*kind, cuts.STREAMED if given.all else STREAMED)
-            out.append(shared.compared(made, f"streams of {comparison.title_of(*kind)}", asked, streams))
-    out += [shared.of_each(made, *call) for call in calls.OTHERS + calls.SHORT_SECRETS]
+            out.append(shared.one_by_one(processors, algorithm, asked, ", one-shots"))
+        if algorithm[2] != SECRETS[1]:
+            asked = cuts.streams(*algorithm, cuts.STREAMED if given.all else STREAMED)
+            out.append(shared.compared(processors, f"streams of {comparison.title_of(*algorithm)}", asked, streams))
+    out += [shared.of_each(processors, *call) for call in calls.OTHERS + calls.SHORT_SECRETS]
     out += [shared.twin_task({cargo.NAME: found}), shared.frames_task({cargo.NAME: found})]
-    out += every_length_tasks(made, given.all)
-    out.append(Task("the table of instructions beside qemu", on_qemu.tell))
+    out += every_length_tasks(processors, given.all)
+    out.append(Task("the table of instructions beside qemu", on_qemu.report))
     out.append(shared.counted("each instruction is of the table", 14_900, functools.partial(in_table, [found, cargo.program()])))
     out += self_tests.parts_of_changes("changes of one bit", mutation, found, given.all)
     out += [shared.assembler_task([(source, cargo.NAME) for source in (TEXT, cargo.SOURCE)]),
@@ -67,10 +67,10 @@ def never(section):
 def cargo_text_tasks(is_all):
     """Returns the tasks on the cargo crate's source, which shares no function with another one."""
     programs = {cargo.NAME: cargo.program()}
-    made = {name: functools.partial(cargo.CargoProcessor, program) for name, program in programs.items()}
-    out = [*cargo_tasks.long_input_tasks(made, is_all, LONG_INPUTS), *cargo_tasks.piece_tasks(made, is_all),
-           *cargo_tasks.xxh3_tasks(made, is_all, like=()), *shared.any_secret_tasks(made, is_all, cargo_tasks.ANY_SECRET),
-           *cargo_tasks.refusal_tasks(functools.partial(shared.of_each, made)),
+    processors = {name: functools.partial(cargo.CargoProcessor, program) for name, program in programs.items()}
+    out = [*cargo_tasks.long_input_tasks(processors, is_all, LONG_INPUTS), *cargo_tasks.piece_tasks(processors, is_all),
+           *cargo_tasks.xxh3_tasks(processors, is_all, like=()), *shared.any_secret_tasks(processors, is_all, cargo_tasks.ANY_SECRET),
+           *cargo_tasks.refusal_tasks(functools.partial(shared.of_each, processors)),
            shared.frames_task(programs, cargo_tasks.FRAMED)]
     titles = [BEGIN + task.title for task in out]
     out.insert(0, shared.counted("each export has its task", cargo_tasks.EXPORTS, functools.partial(
@@ -78,12 +78,12 @@ def cargo_text_tasks(is_all):
     return cargo_tasks.with_begin(out, f"cargo's {cargo.NAME}: ")
 
 
-def every_length_tasks(made, is_all):
+def every_length_tasks(processors, is_all):
     """Yields the tasks of every length and of streams of any updates, by induction: some cases, or all."""
-    yield from [task for kind in every_length.UNROLLED for task in
-                shared.of_every_length(made, kind, f"XXH{kind}: every length to 2^64 - 1", every_length.cases(kind))]
-    yield from [*shared.long_tasks(made, is_all), *shared.plain_stream_tasks(made, is_all),
-                *shared.xxh3_tasks(made, is_all)]
+    yield from [task for algorithm in every_length.UNROLLED for task in
+                shared.of_every_length(processors, algorithm, f"XXH{algorithm}: every length to 2^64 - 1", every_length.cases(algorithm))]
+    yield from [*shared.long_tasks(processors, is_all), *shared.plain_stream_tasks(processors, is_all),
+                *shared.xxh3_tasks(processors, is_all)]
 
 
 def in_table(programs):

@@ -1,7 +1,7 @@
 """Semantics of vector instructions. A vector is two lanes of 64 bits."""
 import functools
 
-from symbolic_terms import Undecided, Unsupported
+from oracle.symbolic_terms import Undecided, Unsupported
 
 from ..values import WORD, arithmetic, bits, joined, low
 from .objects import Register, Vector
@@ -10,24 +10,24 @@ from .processor import form
 HALF = 32
 
 
-def words_of(lanes):
+def quarters_of(lanes):
     """Returns the four 32-bit words of a vector."""
     return [part for lane in lanes for part in (low(lane, HALF), arithmetic("lshr", WORD, lane, HALF))]
 
 
-def of_words(words):
+def of_quarters(parts):
     """Returns a vector of four words, or of fewer with zeros above."""
-    words = [*words, 0, 0, 0][:4]
-    return [joined((words[k], HALF), (words[k + 1], HALF)) for k in (0, 2)]
+    parts = [*parts, 0, 0, 0][:4]
+    return [joined((parts[k], HALF), (parts[k + 1], HALF)) for k in (0, 2)]
 
 
 def read(cpu, x):
     lanes = cpu.vectors[x.number]
-    return words_of(lanes)[:int(x.arrangement[0])] if x.arrangement in ("4s", "2s") else list(lanes)
+    return quarters_of(lanes)[:int(x.arrangement[0])] if x.arrangement in ("4s", "2s") else list(lanes)
 
 
 def write(cpu, x, parts):
-    cpu.vectors[x.number] = of_words(parts) if x.arrangement in ("4s", "2s") else list(parts)
+    cpu.vectors[x.number] = of_quarters(parts) if x.arrangement in ("4s", "2s") else list(parts)
 
 
 def width_of(x):
@@ -104,14 +104,14 @@ def repeat(cpu, x, to, a):
 
 def lane_of(cpu, x):
     lanes = cpu.vectors[x.number]
-    return words_of(lanes)[x.lane] if x.arrangement == "s" else lanes[x.lane]
+    return quarters_of(lanes)[x.lane] if x.arrangement == "s" else lanes[x.lane]
 
 
 @form("mov", "d[] d[], s[] s[], d[] x")
 def put_lane(cpu, x, to, a):
-    whole = words_of(cpu.vectors[to.number]) if to.arrangement == "s" else list(cpu.vectors[to.number])
+    whole = quarters_of(cpu.vectors[to.number]) if to.arrangement == "s" else list(cpu.vectors[to.number])
     whole[to.lane] = cpu.get(a) if isinstance(a, Register) else lane_of(cpu, a)
-    cpu.vectors[to.number] = of_words(whole) if to.arrangement == "s" else whole
+    cpu.vectors[to.number] = of_quarters(whole) if to.arrangement == "s" else whole
 
 
 @form("mov", "x d[]")
@@ -147,4 +147,4 @@ def even_parts(cpu, x, to, a, b):
 
 @form("addv", "s 4s")
 def add_across(cpu, x, to, a):
-    cpu.vectors[to.number] = of_words([functools.reduce(functools.partial(arithmetic, "add", HALF), read(cpu, a))])
+    cpu.vectors[to.number] = of_quarters([functools.reduce(functools.partial(arithmetic, "add", HALF), read(cpu, a))])

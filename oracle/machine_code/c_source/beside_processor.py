@@ -7,10 +7,10 @@ from .objects import COPY, copy_of
 
 FEWEST = 240
 # Instructions on the stack, and copies of words in the test's buffer, by several instructions.
-ROOM = f"{on_processor.ROOM:#x}(%rdi)"
+MEMORY = f"{on_processor.MEMORY:#x}(%rdi)"
 SNIPPETS = [["push %rbp", "mov %rsp,%rbp", "push %rax", "leave", "not %rcx"],
             ["push %rax", "push (%rsp)", "pop %rbx", "pop %rcx"], ["sbb %eax,%eax"], ["sbb %rbx,%rbx"],
-            *([f"mov {ROOM},%rax", f"lea {ROOM},%rsi", f"lea {distance:#x}(%rsi),%rdi", "mov $5,%ecx", "rep movsq",
+            *([f"mov {MEMORY},%rax", f"lea {MEMORY},%rsi", f"lea {distance:#x}(%rsi),%rdi", "mov $5,%ecx", "rep movsq",
                "mov %rax,%rsi"] for distance in (8, 16, 40, 64))]
 TESTED_ELSEWHERE = "leave", COPY, "sbb"
 
@@ -29,5 +29,5 @@ def compare(programs):
         is_tested = form in TABLE and not x.mnemonic.startswith((*on_processor.BEHIND, *TESTED_ELSEWHERE))
         if is_tested and form not in asked.values():
             asked[on_processor.written(x.mnemonic, x.operands)] = form
-    with tempfile.TemporaryDirectory(prefix="c-object-") as room:
-        return on_processor.compare(asked, room, snippets=[*on_processor.SNIPPETS, *SNIPPETS], reader=Snippets)
+    with tempfile.TemporaryDirectory(prefix="c-object-") as workdir:
+        return on_processor.compare(asked, workdir, snippets=[*on_processor.SNIPPETS, *SNIPPETS], reader=Snippets)

@@ -5,7 +5,7 @@ import shutil
 import subprocess
 import tempfile
 
-from symbolic_terms import TOP
+from oracle.symbolic_terms import TOP
 
 from ..instructions import V2, V3
 from .objects import CProcessor, CProgram
@@ -19,15 +19,15 @@ class Compiler(collections.namedtuple("Compiler", "name command processor_name")
 
     def program(self, edit=lambda header: header):
         """Compiles the source, with the header changed by `edit`, and reads the object."""
-        with tempfile.TemporaryDirectory(prefix="c-object-") as room:
-            header, made = os.path.join(room, "xxhash.h"), os.path.join(room, "made.o")
+        with tempfile.TemporaryDirectory(prefix="c-object-") as workdir:
+            header, built = os.path.join(workdir, "xxhash.h"), os.path.join(workdir, "made.o")
             shutil.copy(os.path.join(HEADERS, "xxhash.h"), header)
             with open(header, encoding="utf-8") as file:
                 text = edit(file.read())
             with open(header, "w", encoding="utf-8") as file:
                 file.write(text)
-            subprocess.run([*self.command, "-I", room, "-c", SOURCE, "-o", made], check=True)
-            return CProgram(self.processor_name, made)
+            subprocess.run([*self.command, "-I", workdir, "-c", SOURCE, "-o", built], check=True)
+            return CProgram(self.processor_name, built)
 
     def processor(self, program):
         return CProcessor(program)

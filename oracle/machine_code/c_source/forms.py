@@ -1,6 +1,6 @@
 """Forms of instructions that compilers of C use and the assembly sources don't. Importing this module adds them to the
 table."""
-from symbolic_terms import Node, Unsupported, ones
+from oracle.symbolic_terms import Node, Unsupported, ones
 
 from .. import lanes, scalar
 from ..flags import carry
@@ -11,9 +11,9 @@ from ..values import WORD, Address, arithmetic, bits, combined, joined, low_bits
 
 HIGHEST = 1 << WORD - 1
 
-for name, kind in (("add", "add"), ("sub", "sub"), ("xor", "logic"), ("or", "logic"), ("and", "logic")):
-    form(V1, name, "lm qm")(scalar.binary(name, kind))
-    form(V1, f"{name}l {name}q", "im")(scalar.binary(name, kind))
+for name, op in (("add", "add"), ("sub", "sub"), ("xor", "logic"), ("or", "logic"), ("and", "logic")):
+    form(V1, name, "lm qm")(scalar.binary(name, op))
+    form(V1, f"{name}l {name}q", "im")(scalar.binary(name, op))
 form(V1, "testb", "im")(scalar.test)
 form(V1, "movb", "im")(scalar.move)
 form(V1, "mov", "mb")(scalar.move)
@@ -68,7 +68,7 @@ def leave(cpu, x):
 
 
 @form(V1, "rep-movsq", "")
-def copy_words(cpu, x):
+def copy_upwards(cpu, x):
     """Copies rcx words upwards: the direction flag is 0 at each call, by the calling convention."""
     count = cpu.registers["rcx"]
     if not isinstance(count, int):
@@ -136,17 +136,17 @@ def extract_half(cpu, x, k, source, to):
 @form(V2, "pinsrd", "ilx imx")
 @form(V3, "vpinsrd", "ilxx imxx")
 def insert_half(cpu, x, k, source, *rest):
-    words = [half for lane in cpu.lanes(rest[0], 2) for half in halves(lane)]
-    words[k.value & 3] = cpu.get(source, 32, x)
-    write(cpu, rest[-1], x, of_halves(words))
+    parts = [half for lane in cpu.lanes(rest[0], 2) for half in halves(lane)]
+    parts[k.value & 3] = cpu.get(source, 32, x)
+    write(cpu, rest[-1], x, of_halves(parts))
 
 
 @form(V2, "pinsrq", "iqx imx")
 @form(V3, "vpinsrq", "iqxx imxx")
 def insert_lane(cpu, x, k, source, *rest):
-    words = [*cpu.lanes(rest[0], 2)]
-    words[k.value & 1] = cpu.get(source, WORD, x)
-    write(cpu, rest[-1], x, words)
+    parts = [*cpu.lanes(rest[0], 2)]
+    parts[k.value & 1] = cpu.get(source, WORD, x)
+    write(cpu, rest[-1], x, parts)
 
 
 @form(V3, "vperm2i128", "iyyy imyy")
@@ -162,10 +162,10 @@ def permute_parts(cpu, x, order, second, first, to):
 def shift_each(cpu, x, amounts, source, to):
     """Shifts each word of 32 or 64 bits by its own amount."""
     word, width, count = "lshr" if "srl" in x.mnemonic else "shl", {"d": 32, "q": WORD}[x.mnemonic[-1]], lanes_count(x)
-    words, counts = (lanes_in(read(cpu, operand, x, count), width) for operand in (source, amounts))
+    values, counts = (lanes_in(read(cpu, operand, x, count), width) for operand in (source, amounts))
     if not all(isinstance(k, int) for k in counts):
         raise Unsupported("an amount that is no number")
-    out = [arithmetic(word, width, a, k) if k < width else 0 for a, k in zip(words, counts)]
+    out = [arithmetic(word, width, a, k) if k < width else 0 for a, k in zip(values, counts)]
     write(cpu, to, x, out if width == WORD else of_halves(out))
 
 
@@ -174,9 +174,9 @@ def lanes_in(lanes, width):
     return [bits(lane, first, width) for lane in lanes for first in range(0, WORD, width)]
 
 
-def of_quarters(words):
+def of_quarters(parts):
     """Joins words of 16 bits into lanes."""
-    return [joined(*((word, 16) for word in words[k:k + 4])) for k in range(0, len(words), 4)]
+    return [joined(*((word, 16) for word in parts[k:k + 4])) for k in range(0, len(parts), 4)]
 
 
 @form(V2, "pblendw", "ixx")

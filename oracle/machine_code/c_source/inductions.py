@@ -3,8 +3,8 @@ and XXH64 with any updates."""
 import collections
 import functools
 
-from symbolic_terms import at_most, is_same_number, minus, plus, times, variable
-from symbolic_terms.polynomials import as_word, is_natural
+from oracle.symbolic_terms import at_most, is_same_number, minus, plus, times, variable
+from oracle.symbolic_terms.polynomials import as_word, is_natural
 
 from .. import any_updates, every_length
 from ..every_length import DERIVED, TURNS, Case, xxh3_case
@@ -37,9 +37,9 @@ def xxh3_cases():
         yield xxh3_case(turns, J, minus(turns, LEAST))
 
 
-def cases(kind):
+def cases(algorithm):
     """Returns the cases of a kind. A secret has 192 to 199 bytes."""
-    name, _, way = kind.partition(":")
+    name, _, way = algorithm.partition(":")
     if not way:
         return list(plain_cases(name))
     found = list(xxh3_cases())
@@ -48,14 +48,14 @@ def cases(kind):
     return [every_length.with_rest(case, rest) for case in found for rest in (False, True)]
 
 
-def shortest(kind):
+def shortest(algorithm):
     """Returns the shortest length that the cases contain."""
-    return 241 if ":" in kind else LEAST * int(kind) // 2
+    return 241 if ":" in algorithm else LEAST * int(algorithm) // 2
 
 
-def left_out(kind):
+def left_out(algorithm):
     """Returns the lengths that no case contains, one of each gap."""
-    return every_length.left_out(cases(kind), shortest(kind), 64 * DERIVED if ":" in kind else int(kind) // 2)
+    return every_length.left_out(cases(algorithm), shortest(algorithm), 64 * DERIVED if ":" in algorithm else int(algorithm) // 2)
 
 
 class EveryLength(every_length.EveryLength):

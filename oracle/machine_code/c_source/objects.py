@@ -5,9 +5,9 @@ import contextlib
 import functools
 import itertools
 
-from symbolic_terms import REFUSALS, NotShown, Unsupported, is_same
+from oracle.symbolic_terms import REFUSALS, NotShown, Unsupported, is_same
 
-from ..memory import Stack, Words
+from ..memory import Stack, WordMemory
 from ..objects import RELOCATED, Immediate, Instruction, Register, operands, split
 from ..one_shots import NAMES, WAYS, is_plain, of_seed
 from ..processor import Processor
@@ -59,7 +59,7 @@ class ForHeader(ForC):
     @staticmethod
     def reset(cpu, request, state):
         cpu.lay(state, request.hash_name)
-        name = f"{NAMES[request.hash_name]}_reset" + ("" if is_plain(request.hash_name) else WAYS[request.kind])
+        name = f"{NAMES[request.hash_name]}_reset" + ("" if is_plain(request.hash_name) else WAYS[request.variant])
         secret = [address(request.secret), request.secret_length] if request.secret else []
         expect_answer(cpu.call(name, address(state), *secret, *of_seed(request)), OK)
 
@@ -105,7 +105,7 @@ def allocate(cpu, _):
         raise Unsupported(f"memory of {size} bytes")
     place, found = cpu.return_from_another(), 0
     if not cpu.is_full:
-        block = Words(f"block {len(cpu.blocks)}", size)
+        block = WordMemory(f"block {len(cpu.blocks)}", size)
         block.alignment, block.residue = max(cpu.of_state, (OF_STACK, 0))
         cpu.blocks.append(block)
         found = address(block)

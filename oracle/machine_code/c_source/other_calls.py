@@ -4,11 +4,11 @@ import contextlib
 import functools
 import itertools
 
-from symbolic_terms import (LONGEST_SECRET, REFUSALS, Input, NotShown, Request, at_most, definition, given, is_same,
-                            plus, symbol, variable)
+from oracle.symbolic_terms import (LONGEST_SECRET, REFUSALS, Input, NotShown, Request, at_most, definition, given, is_same,
+                                   plus, symbol, variable)
 
 from .. import calls
-from ..memory import Words
+from ..memory import WordMemory
 from ..one_shots import is_plain
 from ..streams import ERROR, OK, contents, expect_answer, expect_same, new_state
 from ..values import Address, address, low
@@ -33,9 +33,9 @@ def equal_hashes(cpu):
     with contextlib.suppress(*REFUSALS):
         return calls.is_equal(cpu)
     for signs in itertools.product((0, 1, -1), repeat=2):
-        words = [(variable(f"word {k}"), plus(variable(f"word {k}"), variable(f"more {k}"), 1)) for k in (0, 1)]
-        one, other = [[pair[sign == side] for pair, sign in zip(words, signs)] for side in (1, -1)]
-        with given(*(at_most(above, LIMIT) for _, above in words)):
+        pairs = [(variable(f"word {k}"), plus(variable(f"word {k}"), variable(f"more {k}"), 1)) for k in (0, 1)]
+        one, other = [[pair[sign == side] for pair, sign in zip(pairs, signs)] for side in (1, -1)]
+        with given(*(at_most(above, LIMIT) for _, above in pairs)):
             rax, _ = cpu.call("XXH128_isEqual", *one, *other)
         calls.expect("XXH128_isEqual", low(rax, 32), int(not any(signs)))
     return 9
@@ -74,15 +74,15 @@ def refused_resets(cpu):
 def refused_secrets(cpu):
     """Tests generated secrets of each size that is too short, into null, and from null as more than 0 bytes."""
     size, length = variable("size"), variable("length")
-    room, source = Words("secret", SHORTEST, [], alignment=1), address(Input("m", length))
-    place, large = address(room), plus(size, SHORTEST)
+    buffer, source = WordMemory("secret", SHORTEST, [], alignment=1), address(Input("m", length))
+    place, large = address(buffer), plus(size, SHORTEST)
     cases = [(place, size, source, length, at_most(size, SHORTEST - 1)),
              (0, size, source, length, at_most(size, LIMIT)),
              (place, large, 0, plus(length, 1), at_most(plus(large, length), LIMIT - 1))]
     for *arguments, fact in cases:
         with given(fact, at_most(length, LIMIT)):
             expect_answer(cpu.call("XXH3_generateSecret", *arguments), ERROR)
-        if room.cells:
+        if buffer.cells:
             raise NotShown("a refused secret is written")
     return len(cases)
 
@@ -90,7 +90,7 @@ def refused_secrets(cpu):
 def updates_of_nothing(cpu, hash_name):
     """Tests that a null chunk of length 0, before, between and after others, leaves the digest unchanged."""
     entries, lengths = definition.program().run(), (0, 5, 33, 300, 700)
-    kind = "seed" if is_plain(hash_name) else "default"
+    variant = "seed" if is_plain(hash_name) else "default"
 
     def ask(request):
         cpu.not_zero, state = [], any_state(cpu, hash_name)
@@ -100,7 +100,7 @@ def updates_of_nothing(cpu, hash_name):
         ours, theirs = cpu.library.digest(cpu, hash_name, state), request.of_definition(entries)
         calls.expect(f"{request} beside null pieces", ours, theirs)
     for n in lengths:
-        at_each_residue(cpu, functools.partial(ask, Request(hash_name, kind, n)), OF_STATE[hash_name.split("-")[0]])
+        at_each_residue(cpu, functools.partial(ask, Request(hash_name, variant, n)), OF_STATE[hash_name.split("-")[0]])
     return len(lengths)
 
 
@@ -123,7 +123,7 @@ def order_of_hashes(cpu):
 def generated_secrets(cpu, asked):
     """Tests secrets of given sizes, generated from seeds of given lengths."""
     for one in asked:
-        at_each_residue(cpu, functools.partial(calls.made_secrets, cpu, [one]))
+        at_each_residue(cpu, functools.partial(calls.generated_secrets, cpu, [one]))
     return len(asked)
 
 
@@ -158,7 +158,7 @@ def expect_created(cpu, algorithm, place):
         raise NotShown(f"{algorithm}_createState leaves its block")
     if least > OF_STACK and (block.alignment % least or (block.residue + at) % least):
         raise NotShown("a state that isn't aligned")
-    state = Words("state", size, [], alignment=MODULUS)
+    state = WordMemory("state", size, [], alignment=MODULUS)
     width, seed = ("_64bits", []) if algorithm == "XXH3" else ("", [0])
     expect_answer(cpu.call(f"{algorithm}{width}_reset", address(state), *seed), OK)
     for first, (n, _) in state.cells.items():

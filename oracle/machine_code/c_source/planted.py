@@ -2,7 +2,7 @@
 import collections
 import functools
 
-from symbolic_terms import REFUSALS, Request, WrongRule, comparison, header_mutants
+from oracle.symbolic_terms import REFUSALS, Request, WrongRule, comparison, header_mutants
 
 from .. import one_shots, streams
 from . import inductions, other_calls
@@ -14,18 +14,18 @@ Fault = collections.namedtuple("Fault", "function old new ask")
 
 # ---- what detects a fault: each function raises, or returns messages
 
-def value(hash_name, kind, length, secret=None, cuts=None):
+def value(hash_name, variant, length, secret=None, cuts=None):
     """Returns the comparison of a one-shot, or of a stream that is cut."""
     def ask(cpu):
         side = OfText(one_shots if cuts is None else streams)
-        request = Request(hash_name, kind, length, secret, cuts=cuts)
+        request = Request(hash_name, variant, length, secret, cuts=cuts)
         return comparison.compare({"C": functools.partial(side.of_text, cpu)}, [request])[1]
     return ask
 
 
-def any_length(kind, number=-1):
+def any_length(algorithm, number=-1):
     """Returns the proof of a case of every length."""
-    return lambda cpu: inductions.EveryLength(cpu, kind).show(inductions.cases(kind)[number]) or []
+    return lambda cpu: inductions.EveryLength(cpu, algorithm).show(inductions.cases(algorithm)[number]) or []
 
 
 def update(hash_name, r, s, more):

@@ -2,8 +2,8 @@
 definition."""
 import functools
 
-from symbolic_terms import Request, comparison, cuts
-from symbolic_terms.comparison import title_of
+from oracle.symbolic_terms import Request, comparison, cuts
+from oracle.symbolic_terms.comparison import title_of
 
 from .. import calls, one_shots, streams
 from ..tasks import compared, count_shown, counted
@@ -17,8 +17,8 @@ ONE_BY_ONE = range(301)
 SOME = [*range(20), 32, 33, 64, 65, 96, 97, 128, 129, 144, 192, 239, 240, 241, 256, 257, 300]
 FEW, STREAMED, SOME_STREAMS = [0, 5, 17, 129, 240, 241, 300], [4, 16, 33, 257], 3
 WAYS = "default", "seed", "secret", "both"
-KINDS = ["32", "64", *(f"{name}:{way}" for name in ("3-64", "3-128") for way in WAYS)]
-SOME_KINDS = ["32", "64", "3-64:default", "3-128:seed", "3-64:both"]
+ALGORITHMS = ["32", "64", *(f"{name}:{way}" for name in ("3-64", "3-128") for way in WAYS)]
+SOME_ALGORITHMS = ["32", "64", "3-64:default", "3-128:seed", "3-64:both"]
 # Without --all: steps between the cases of inductions and the planted faults.
 SOME_CASES, SOME_UPDATES = {"32": 4, "64": 8, "default": 15, "seed": 15, "both": 30}, {"32": 67, "64": 499}
 SOME_ENDS, SOME_FAULTS = 8, 3
@@ -51,9 +51,9 @@ def not_verified(compilers):
 def choose(given, compilers):
     """Returns the tasks, and compiles the source."""
     programs = {compiler.name: compiler.program() for compiler in compilers}
-    made = {name: functools.partial(CProcessor, program) for name, program in programs.items()}
-    out = [all_called_task(programs, made), *value_tasks(made, given.all), *length_tasks(made, given.all),
-           *update_tasks(made, given.all), *call_tasks(made, given.all), *fault_tasks(compilers, given.all),
+    processors = {name: functools.partial(CProcessor, program) for name, program in programs.items()}
+    out = [all_called_task(programs, processors), *value_tasks(processors, given.all), *length_tasks(processors, given.all),
+           *update_tasks(processors, given.all), *call_tasks(processors, given.all), *fault_tasks(compilers, given.all),
            counted("forms of instructions beside the processor", beside_processor.FEWEST,
                    functools.partial(beside_processor.compare, [*programs.values()]))]
     return [task for task in out if given.only in task.title]
@@ -61,50 +61,50 @@ def choose(given, compilers):
 
 # ---- one by one
 
-def value_tasks(made, is_all):
+def value_tasks(processors, is_all):
     """Yields the tasks of one-shots and of streams, one by one."""
-    for kind in comparison.kinds(SECRETS if is_all else SECRETS[:1]):
-        lengths = ONE_BY_ONE if is_all else FEW if kind[2] else SOME
-        asked = comparison.requests(*kind, lengths)
-        yield compared(made, f"{title_of(*kind)}, one-shots", asked, OfText(one_shots))
-        asked = list(cuts.streams(*kind, cuts.STREAMED if is_all else STREAMED))
-        asked = [*asked, *at_once(kind)] if is_all else asked[::SOME_STREAMS]
-        yield compared(made, f"{title_of(*kind)}, streams", asked, OfText(streams))
+    for algorithm in comparison.algorithms(SECRETS if is_all else SECRETS[:1]):
+        lengths = ONE_BY_ONE if is_all else FEW if algorithm[2] else SOME
+        asked = comparison.requests(*algorithm, lengths)
+        yield compared(processors, f"{title_of(*algorithm)}, one-shots", asked, OfText(one_shots))
+        asked = list(cuts.streams(*algorithm, cuts.STREAMED if is_all else STREAMED))
+        asked = [*asked, *at_once(algorithm)] if is_all else asked[::SOME_STREAMS]
+        yield compared(processors, f"{title_of(*algorithm)}, streams", asked, OfText(streams))
 
 
-def at_once(kind):
+def at_once(algorithm):
     """Yields the streams of each length by one update."""
     for n in ONE_BY_ONE:
-        request = Request(*kind[:2], n, kind[2], cuts=[])
+        request = Request(*algorithm[:2], n, algorithm[2], cuts=[])
         yield from [request, *request.with_seed_0()]
 
 
 # ---- every length, and any updates
 
-def length_tasks(made, is_all):
-    yield counted("every length has its case", len(KINDS), lambda: told_left_out(KINDS, inductions.left_out))
-    for kind in KINDS if is_all else SOME_KINDS:
-        step = 1 if is_all else SOME_CASES[kind.rpartition(":")[2]]
-        asked, first = inductions.cases(kind)[::step], inductions.shortest(kind)
-        is_own = kind.endswith(inductions.OWN_SECRET)
+def length_tasks(processors, is_all):
+    yield counted("every length has its case", len(ALGORITHMS), lambda: report_left_out(ALGORITHMS, inductions.left_out))
+    for algorithm in ALGORITHMS if is_all else SOME_ALGORITHMS:
+        step = 1 if is_all else SOME_CASES[algorithm.rpartition(":")[2]]
+        asked, first = inductions.cases(algorithm)[::step], inductions.shortest(algorithm)
+        is_own = algorithm.endswith(inductions.OWN_SECRET)
         secret = " of 192 to 199 bytes" if is_own else ""
-        for name, make in ((name, make) for name, make in made.items() if not is_own or name.startswith(OF_SECRETS)):
-            title = f"{name}: XXH{kind.replace(':', ', ')}{secret}: every length from {first} to 2^64 - 1"
-            yield counted(title, len(asked), functools.partial(of_lengths, make, kind, asked))
+        for name, make in ((name, make) for name, make in processors.items() if not is_own or name.startswith(OF_SECRETS)):
+            title = f"{name}: XXH{algorithm.replace(':', ', ')}{secret}: every length from {first} to 2^64 - 1"
+            yield counted(title, len(asked), functools.partial(of_lengths, make, algorithm, asked))
 
 
-def of_lengths(make, kind, asked):
-    proof = inductions.EveryLength(make(), kind)
+def of_lengths(make, algorithm, asked):
+    proof = inductions.EveryLength(make(), algorithm)
     return count_shown(proof, [functools.partial(proof.show, case) for case in asked])
 
 
-def update_tasks(made, is_all):
+def update_tasks(processors, is_all):
     names = list(inductions.LAYOUTS)
-    yield counted("each update has its case", len(names), lambda: told_left_out(names, inductions.updates_left_out))
+    yield counted("each update has its case", len(names), lambda: report_left_out(names, inductions.updates_left_out))
     for hash_name in names:
         step, asked = 1 if is_all else SOME_ENDS, inductions.updates(hash_name)
         parts = [asked[part::PARTS] for part in range(PARTS)] if is_all else [asked[::SOME_UPDATES[hash_name]]]
-        for name, make in made.items():
+        for name, make in processors.items():
             for k, part in enumerate(parts):
                 title = f"{name}: streams of XXH{hash_name}: any updates, to 2^64 - 1 bytes"
                 yield counted(f"{title}, part {k + 1} of {len(parts)}", len(part), functools.partial(
@@ -118,9 +118,9 @@ def of_updates(make, hash_name, asked, step):
     return count_shown(proof, [*(functools.partial(proof.show, one) for one in asked), *ends])
 
 
-def told_left_out(kinds, find):
-    bad = [f"XXH{kind}: no case has {left[:5]}" for kind in kinds if (left := find(kind))]
-    return len(kinds) - len(bad), bad
+def report_left_out(algorithms, find):
+    bad = [f"XXH{algorithm}: no case has {left[:5]}" for algorithm in algorithms if (left := find(algorithm))]
+    return len(algorithms) - len(bad), bad
 
 
 # ---- the other functions
@@ -150,29 +150,29 @@ def other_checks(name="", is_all=False):
         yield f"null chunks of XXH{hash_name}", 5, part(other_calls.updates_of_nothing, hash_name=hash_name)
 
 
-def call_tasks(made, is_all):
+def call_tasks(processors, is_all):
     for title, least, ask in other_checks(is_all=is_all):
-        known = [make for name, make in made.items() if title != OF_MALLOC or not left_out(name)]
+        known = [make for name, make in processors.items() if title != OF_MALLOC or not left_out(name)]
         yield counted(title, least * len(known), functools.partial(asked_of, known, ask))
 
 
-def asked_of(made, ask):
-    return sum(ask(make()) for make in made), []
+def asked_of(processors, ask):
+    return sum(ask(make()) for make in processors), []
 
 
-def all_called_task(programs, made):
-    least = sum(FUNCTIONS - len(left_out(name)) for name in made)
-    return counted("each function is called", least, functools.partial(all_called, programs, made))
+def all_called_task(programs, processors):
+    least = sum(FUNCTIONS - len(left_out(name)) for name in processors)
+    return counted("each function is called", least, functools.partial(all_called, programs, processors))
 
 
-def all_called(programs, made):
+def all_called(programs, processors):
     """Calls all functions, and compares the called ones with those that the objects export."""
     count, bad = 0, []
-    for name, make in made.items():
+    for name, make in processors.items():
         cpu, exports = make(), programs[name].exports.keys()
-        for kind in comparison.kinds(SECRETS[:1]):
+        for algorithm in comparison.algorithms(SECRETS[:1]):
             for side, ends in ((one_shots, None), (streams, [])):
-                OfText(side).of_text(cpu, Request(*kind[:2], 17, kind[2], cuts=ends))
+                OfText(side).of_text(cpu, Request(*algorithm[:2], 17, algorithm[2], cuts=ends))
         for _, _, ask in other_checks(name):
             ask(cpu)
         bad += [f"{name}: no task calls {one}" for one in sorted(exports - cpu.called - left_out(name).keys())]

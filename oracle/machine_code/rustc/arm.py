@@ -1,10 +1,10 @@
 """Reads rustc's object for 64-bit ARM."""
-from symbolic_terms import Unsupported
+from oracle.symbolic_terms import Unsupported
 
 from ..aarch64.objects import Immediate, Instruction, Program, Shift
 from ..aarch64.processor import form
 from ..aarch64.table import Processor
-from ..aarch64.words import shifted
+from ..aarch64.scalar import shifted
 from .library import ForRust
 from .objects import Allocator, OfRustc
 

@@ -3,8 +3,8 @@
 The features of each level are those of the x86-64 psABI, with their bits from Intel's and AMD's manuals."""
 import functools
 
-from symbolic_terms import (LONGEST_SECRET, Input, NotShown, Piece, Request, at_most, definition, given, is_same,
-                            is_same_number, minus, plus, seed_symbol, symbol, variable)
+from oracle.symbolic_terms import (LONGEST_SECRET, Input, NotShown, Piece, Request, at_most, definition, given, is_same,
+                                   is_same_number, minus, plus, seed_symbol, symbol, variable)
 
 from .. import layouts
 from ..cargo import LONGEST_WITHOUT, SHORTEST
@@ -28,7 +28,7 @@ OF_V4 = {"AVX512F": (SEVENTH, EBX, 16), "AVX512DQ": (SEVENTH, EBX, 17), "AVX512C
 NUMBERS = {"x86-64": 0, "x86-64-v3": 1, "x86-64-v4": 2}     # of the variants of `Level`
 LONGEST_SLICE = (1 << 63) - 1
 FILLED = 200                      # buffered bytes of a stream
-ROOM = layouts.CORE.room - FILLED              # and bytes that still fit
+CAPACITY = layouts.CORE.capacity - FILLED              # and bytes that still fit
 SWITCH = 2048                     # bytes of a chunk from which on the code for x86-64-v4 is called
 
 
@@ -66,9 +66,9 @@ def choice(cpu):
     cases = [(both, "x86-64-v4"), (v3, "x86-64-v3"), (v4, "x86-64"), ([], "x86-64")]
     cases += [([x for x in both if x != left], "x86-64") for left in v3]
     cases += [([x for x in both if x != left], "x86-64-v3") for left in v4]
-    for bits, wanted in cases:
+    for bits, expected in cases:
         for others in (0, 1):
-            expect_level(cpu, Features(bits, others), wanted)
+            expect_level(cpu, Features(bits, others), expected)
             count += 1
     for leaves, further in ((SEVENTH - 1, EXTENDED), (SEVENTH, HIGHEST)):
         expect_level(cpu, Features(both, 1, leaves, further), "x86-64")
@@ -76,14 +76,14 @@ def choice(cpu):
     return count
 
 
-def expect_level(cpu, features, wanted):
+def expect_level(cpu, features, expected):
     cpu.constants[cpu.program.level].store(0, 1, UNKNOWN)
     cpu.features = features
     for _ in range(2):            # the second call reads the level that the first one stored
         found = cpu.call("processor_level")[0]
-        if not is_same_number(found, NUMBERS[wanted]):
+        if not is_same_number(found, NUMBERS[expected]):
             missing = [name for name, place in {**OF_V3, **OF_V4}.items() if place not in features.bits]
-            raise NotShown(f"the level {found} without {missing}, not {wanted}")
+            raise NotShown(f"the level {found} without {missing}, not {expected}")
         cpu.features = None
 
 
@@ -134,20 +134,20 @@ def long_inputs(cpu):
     seed, n, more = seed_symbol("64"), variable("n"), variable("more")
     length, size = plus(LONGEST_WITHOUT + 1, n), plus(SHORTEST, more)
     for width in (64, 128):
-        for kind in ("default", "seed", "seed 0", "secret", "both"):
-            has_secret = kind in ("secret", "both")
+        for variant in ("default", "seed", "seed 0", "secret", "both"):
+            has_secret = variant in ("secret", "both")
             message, secret = Input("m", length), Input("s", size) if has_secret else None
-            used = 0 if kind == "seed 0" else seed
+            used = 0 if variant == "seed 0" else seed
             rest = [address(secret), size] if has_secret else []
-            rest += [used] if kind in ("seed", "seed 0", "both") else []
+            rest += [used] if variant in ("seed", "seed 0", "both") else []
             cpu.replaced, cpu.not_zero, cpu.live = {}, [seed], []
-            known = secret or derived_secret(seed if kind == "seed" else 0)
+            known = secret or derived_secret(seed if variant == "seed" else 0)
             with given(at_most(length, LONGEST_SLICE), at_most(size, LONGEST_SECRET)):
                 called = Called(cpu, width, message, length, secret or [known[k] for k in range(192)])
-                value = ForRust.one_shot(cpu, f"3-{width}", kind.split()[0], address(message), length, *rest)
+                value = ForRust.one_shot(cpu, f"3-{width}", variant.split()[0], address(message), length, *rest)
             whole = called.values[0] if width == 64 else value_of("3-128", called.values)
             if called.count != 1 or not is_same(value, whole):
-                raise NotShown(f"XXH3-{width}, {kind}: {called.count} calls, and the value {value}")
+                raise NotShown(f"XXH3-{width}, {variant}: {called.count} calls, and the value {value}")
             count += 1
     cpu.replaced = {}
     return count
@@ -159,9 +159,9 @@ def long_chunks(cpu):
     """Tests that a chunk that the buffer of a stream has no room for, of any length, is one call of the assembly
     source: with the stream's core, its secret, and the chunk."""
     count, n = 0, variable("n")
-    length, of_level = plus(ROOM + 1, n), minus(SWITCH, ROOM + 1)
+    length, of_level = plus(CAPACITY + 1, n), minus(SWITCH, CAPACITY + 1)
     for hash_name, way in [(name, way) for name in ("3-64", "3-128") for way in ways(name)]:
-        asked = Request(hash_name, way.kind, FILLED, SHORTEST if way.kind == "both" else None, cuts=[])
+        asked = Request(hash_name, way.variant, FILLED, SHORTEST if way.variant == "both" else None, cuts=[])
         for request in [asked, *asked.with_seed_0()]:
             for facts in ([at_most(n, of_level - 1)], [minus(n, of_level), at_most(length, LONGEST_SLICE)]):
                 with given(*facts):

@@ -6,7 +6,7 @@ import shutil
 import subprocess
 import tempfile
 
-from symbolic_terms import TOP
+from oracle.symbolic_terms import TOP
 
 from ..instructions import V1, V3
 from . import arm, objects
@@ -24,23 +24,23 @@ ASSEMBLY, SCALAR_BUILD = "assembly", "scalar"
 ARM, DEBIANS_RUSTC = "aarch64-unknown-linux-gnu", "/usr/bin/rustc"
 
 
-class Compiler(collections.namedtuple("Compiler", "name words program processor")):
+class Compiler(collections.namedtuple("Compiler", "name command program processor")):
     """A rustc with the options of a build, the reader of its object, and the processor that runs it."""
 
     def program_of(self, edits=()):
         """Compiles a copy of the crate with the program added, and reads the object. `edits` are (file, old, new)."""
-        with tempfile.TemporaryDirectory(prefix="rust-object-") as room:
+        with tempfile.TemporaryDirectory(prefix="rust-object-") as workdir:
             for folder in ("src", "asm"):
-                shutil.copytree(os.path.join(CRATE, folder), os.path.join(room, folder))
-            shutil.copy(os.path.join(CRATE, "README.md"), room)
-            shutil.copy(PROGRAM, os.path.join(room, "src", "program.rs"))
-            root, made = os.path.join(room, "src", "lib.rs"), os.path.join(room, "made.o")
+                shutil.copytree(os.path.join(CRATE, folder), os.path.join(workdir, folder))
+            shutil.copy(os.path.join(CRATE, "README.md"), workdir)
+            shutil.copy(PROGRAM, os.path.join(workdir, "src", "program.rs"))
+            root, built = os.path.join(workdir, "src", "lib.rs"), os.path.join(workdir, "made.o")
             with open(root, "a", encoding="utf-8") as file:
                 file.write("\nmod program;\n")
             for file, old, new in edits:
-                edit(os.path.join(room, "src", file), old, new)
-            subprocess.run([*self.words, *FLAGS, root, "-o", made], check=True)
-            return self.program(made)
+                edit(os.path.join(workdir, "src", file), old, new)
+            subprocess.run([*self.command, *FLAGS, root, "-o", built], check=True)
+            return self.program(built)
 
 
 def edit(path, old, new):
@@ -57,15 +57,15 @@ def for_x86():
     """Returns the builds by the machine's own rustc: the Rust source for two instruction sets and without vectors, and
     the assembly source, whose functions for all instruction sets are in one object."""
     def build(name, flags, target):
-        words = "rustc", "-C", f"target-cpu={target}", *flags
-        return Compiler(name, words, functools.partial(objects.RustProgram, name), objects.RustProcessor)
+        command = "rustc", "-C", f"target-cpu={target}", *flags
+        return Compiler(name, command, functools.partial(objects.RustProgram, name), objects.RustProcessor)
     return [build(V1, SOURCE, V1), build(V3, SOURCE, V3), build(SCALAR_BUILD, SCALAR, V1), build(ASSEMBLY, (), V1)]
 
 
-def for_arm(root, room):
+def for_arm(root, workdir):
     """Returns Debian's rustc with Debian's libraries for 64-bit ARM, unpacked below `root`."""
     libraries = os.path.join("lib", "rustlib")
-    os.makedirs(os.path.join(room, libraries))
-    os.symlink(os.path.join(root, "usr", libraries, ARM), os.path.join(room, libraries, ARM))
-    words = DEBIANS_RUSTC, "--target", ARM, "--sysroot", room, *SOURCE
-    return [Compiler("aarch64", words, arm.RustProgram, arm.RustProcessor)]
+    os.makedirs(os.path.join(workdir, libraries))
+    os.symlink(os.path.join(root, "usr", libraries, ARM), os.path.join(workdir, libraries, ARM))
+    command = DEBIANS_RUSTC, "--target", ARM, "--sysroot", workdir, *SOURCE
+    return [Compiler("aarch64", command, arm.RustProgram, arm.RustProcessor)]

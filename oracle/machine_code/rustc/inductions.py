@@ -1,5 +1,5 @@
 """The cases of the inductions over rustc's object: those of the assembly source, of which some are split in two."""
-from symbolic_terms import at_most, minus, plus, times, variable
+from oracle.symbolic_terms import at_most, minus, plus, times, variable
 
 from .. import any_updates, every_length
 from .compilers import ASSEMBLY
@@ -20,13 +20,13 @@ class RustUpdates(any_updates.AnyUpdates):
             super().update_between(a, r, b, s, [*known, *more], family, total)
 
 
-def cases_of(kind, is_assembly=False):
+def cases_of(algorithm, is_assembly=False):
     """Returns the cases of every length. Those of XXH3 are split by whether the last stripe is whole, which rustc's
     checks of slices use, and those of XXH32 by whether the assembly source is called."""
-    found = every_length.cases(kind)
-    if kind == "32" and is_assembly:
+    found = every_length.cases(algorithm)
+    if algorithm == "32" and is_assembly:
         return split(found, by_call(variable(every_length.TURNS)))
-    return split(found, by_last_stripe()) if ":" in kind else found
+    return split(found, by_last_stripe()) if ":" in algorithm else found
 
 
 def by_call(turns):

@@ -8,7 +8,7 @@ from ..values import address, low
 ONE_SHOTS = {"default": "", "seed": "_with_seed", "secret": "_with_secret", "both": "_with_seed_and_secret"}
 
 # A way to start a stream: the kind of requests that it serves, the beginning of its exports' names, and its start.
-Way = collections.namedtuple("Way", "kind prefix start")
+Way = collections.namedtuple("Way", "variant prefix start")
 PLAIN = [Way("seed", "xxh{}_", "start"), Way("seed", "xxh{}_", "build"), Way("zero", "xxh{}_", "default")]
 OF_XXH3 = [Way("default", "xxh{}_", "new"), Way("seed", "xxh{}_", "with_seed"), Way("both", "raw_given_{}_", "new"),
            Way("default", "xxh{}_", "default"), Way("both", "xxh{}_", "with_seed_and_secret"),
@@ -34,14 +34,14 @@ class ForRust:
             self.SIZES[hash_name.split("-")[0]] = size(cpu, way.prefix)
 
     @staticmethod
-    def one_shot(cpu, hash_name, kind, *arguments):
+    def one_shot(cpu, hash_name, variant, *arguments):
         """Returns the hash, or 0 if the secret is too short and the call refuses it."""
-        name = f"{export_name(hash_name)}_oneshot" + ("" if is_plain(hash_name) else ONE_SHOTS[kind])
-        if kind not in ("secret", "both"):
+        name = f"{export_name(hash_name)}_oneshot" + ("" if is_plain(hash_name) else ONE_SHOTS[variant])
+        if variant not in ("secret", "both"):
             return value_of(hash_name, cpu.call(name, *arguments))
         length, secret_length = arguments[1], arguments[3]
         is_short = isinstance(secret_length, int) and secret_length < SHORTEST
-        is_refused = is_short and (kind == "secret" or length > LONGEST_WITHOUT)
+        is_refused = is_short and (variant == "secret" or length > LONGEST_WITHOUT)
         code, value = call_into(cpu, hash_name, name, *arguments)
         expect_code(name, code, TOO_SHORT if is_refused else DONE)
         return value
@@ -50,7 +50,7 @@ class ForRust:
         """Starts an empty stream."""
         way, seed = self.way or ways(request.hash_name)[0], request.seed()
         arguments = [address(request.secret), request.secret.length] if request.secret else []
-        if way.kind in ("seed", "both"):
+        if way.variant in ("seed", "both"):
             arguments.append((seed, int(request.hash_name)) if is_plain(request.hash_name) else seed)
         expect_done(cpu, way.prefix + way.start, address(state), *arguments)
 

@@ -11,13 +11,13 @@ import collections
 import functools
 import re
 
-from symbolic_terms import Unsupported, is_natural, is_number, is_same_number, minus
-from symbolic_terms.memory import Unset
+from oracle.symbolic_terms import Unsupported, is_natural, is_number, is_same_number, minus
+from oracle.symbolic_terms.memory import Unset
 
 from .. import lanes
 from ..instructions import NAMES, V1, V3, V4, known, letters
 from ..object_contents import CODE, CONSTANTS, FRAMES, FUNCTION, LOADED, MERGEABLE, NOBITS, NOTE, WRITTEN, is_global
-from ..memory import ReturnTo, Words
+from ..memory import ReturnTo, WordMemory
 from ..objects import PC32, PLT32, Instruction, Program, Register, split
 from ..processor import Processor
 from ..scalar import binary, compare, divide, step, test, whole_product
@@ -95,7 +95,7 @@ class RustProgram(OfRustc, Program):
     def relocations_of(self, section):
         if section.flags != CODE:
             return {}
-        self.by_table |= {(section.name, place) for place, kind, *_ in self.relocations_in(section) if kind in BY_TABLE}
+        self.by_table |= {(section.name, place) for place, r_type, *_ in self.relocations_in(section) if r_type in BY_TABLE}
         return super().relocations_of(section)
 
     def instruction(self, section, at, end, text, places):
@@ -227,7 +227,7 @@ class RustProcessor(Processor):
         super().__init__(found, max(sets))
         self.allocator = Allocator(self)
         if found.level:
-            self.constants[found.level] = Words("level", 1, [(0, 1, level)])
+            self.constants[found.level] = WordMemory("level", 1, [(0, 1, level)])
         for name, short in found.allocator():
             self.code[name] = {0: (functools.partial(run_of_allocator, short), None)}
         self.library = ForRust(self)

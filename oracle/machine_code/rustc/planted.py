@@ -3,7 +3,7 @@ import collections
 import functools
 import re
 
-from symbolic_terms import REFUSALS, Request, WrongRule, comparison, definition
+from oracle.symbolic_terms import REFUSALS, Request, WrongRule, comparison, definition
 
 from .. import any_updates, every_length, one_shots, xxh3_updates
 from ..tasks import count_shown
@@ -27,22 +27,22 @@ Fault = collections.namedtuple("Fault", "build file old new ask message")
 
 # ---- what detects a fault: each function raises, or returns messages
 
-def value(hash_name, kind, length, secret=None, level="Base"):
+def value(hash_name, variant, length, secret=None, level="Base"):
     """Returns the comparison of a one-shot."""
     def ask(make):
         cpu = make(LEVELS[level])
-        asked = [Request(hash_name, kind, length, secret)]
+        asked = [Request(hash_name, variant, length, secret)]
         return comparison.compare({"rustc": functools.partial(one_shots.of_text, cpu)}, asked)[1]
     return ask
 
 
-def stream(hash_name, kind, prefix, start, length, *cuts):
+def stream(hash_name, variant, prefix, start, length, *cuts):
     """Returns the comparison of a stream."""
     def ask(make):
         way = next(way for way in ways(hash_name) if (way.prefix, way.start) == (prefix, start))
-        request, cpu = Request(hash_name, kind, length, cuts=cuts), make(LEVELS["Base"])
-        wanted = request.of_definition(definition.program().run())
-        uses.expect(repr(request), uses.written(cpu, hash_name, way, request), wanted)
+        request, cpu = Request(hash_name, variant, length, cuts=cuts), make(LEVELS["Base"])
+        expected = request.of_definition(definition.program().run())
+        uses.expect(repr(request), uses.written(cpu, hash_name, way, request), expected)
         return []
     return ask
 
@@ -143,18 +143,18 @@ def unnoticed(compilers, faults):
     """Compiles faults together. Returns how many are detected, and messages on the others."""
     compiler = next(one for one in compilers if one.name == build_of(faults[0].build))
     program = compiler.program_of([(fault.file, fault.old, fault.new) for fault in faults])
-    bad = [message for fault in faults if (message := told_of(fault, functools.partial(compiler.processor, program)))]
+    bad = [message for fault in faults if (message := messages_of(fault, functools.partial(compiler.processor, program)))]
     return len(faults) - len(bad), bad
 
 
-def told_of(fault, make):
+def messages_of(fault, make):
     """Returns a message if a fault isn't detected by what it must be."""
     try:
-        told = fault.ask(make)
+        messages = fault.ask(make)
     except (*REFUSALS, WrongRule) as error:
-        told = [str(error)]
-    if isinstance(told, list) and any(re.search(fault.message, line) for line in told):
+        messages = [str(error)]
+    if isinstance(messages, list) and any(re.search(fault.message, line) for line in messages):
         return None
-    return f"{fault.file}: {fault.new.strip()}: {told or 'it was not noticed'}"
+    return f"{fault.file}: {fault.new.strip()}: {messages or 'it was not noticed'}"
 
 

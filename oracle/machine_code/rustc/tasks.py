@@ -3,8 +3,8 @@ import functools
 import itertools
 import re
 
-from symbolic_terms import comparison, cuts
-from symbolic_terms.comparison import title_of
+from oracle.symbolic_terms import comparison, cuts
+from oracle.symbolic_terms.comparison import title_of
 
 from .. import any_updates, every_length, xxh3_updates
 from ..instructions import V1, V3
@@ -20,7 +20,7 @@ ONE_BY_ONE = range(301)
 SOME = [*range(0, 33), 48, 63, 64, 65, 96, 128, 129, 160, 192, 240, 241, 255, 256, 257, 300]
 FEW = [0, 3, 7, 16, 33, 100, 129, 240, 241, 300]
 LONG = [1024, 1025, 3137]         # bytes: the edge of a block, and more than two blocks
-SOME_KINDS = [("3-64", "default", None), ("3-128", "secret", 136)]      # of long one-shots, without --all
+SOME_ALGORITHMS = [("3-64", "default", None), ("3-128", "secret", 136)]      # of long one-shots, without --all
 STREAMED = [3, 8, 17, 33, 70]
 SOME_CASES, SOME_OF_XXH3, SOME_UPDATES, SOME_OF_RAW = 16, 32, 389, 7      # steps between cases of the inductions, without --all
 LONGER = {"32": range(301, 2001), "64": range(301, 2001), "3-64": range(301, 1101), "3-128": range(301, 1101)}
@@ -39,116 +39,116 @@ def choose(given, compilers):
     for compiler in compilers if given.all else [one for one in compilers if one.name != V3]:
         program = compiler.program_of()
         make = functools.partial(compiler.processor, program)
-        made = {f"level {level}": functools.partial(make, level) for level in OF_BUILD.get(compiler.name, (1,))}
-        for one in made.values():
+        processors = {f"level {level}": functools.partial(make, level) for level in OF_BUILD.get(compiler.name, (1,))}
+        for one in processors.values():
             one()      # looks up the instructions' functions, which the tasks' processes share
-        out += build_tasks(compiler.name, made, given.all)
-        out += called_tasks(compiler.name, make, program, made, given.all)
+        out += build_tasks(compiler.name, processors, given.all)
+        out += called_tasks(compiler.name, make, program, processors, given.all)
     out += fault_tasks(given, compilers)
     return [task for task in out if given.only in task.title]
 
 
-def build_tasks(name, made, is_all):
-    first = dict([next(iter(made.items()))])
-    yield from one_shot_tasks(name, made, first, is_all)
+def build_tasks(name, processors, is_all):
+    first = dict([next(iter(processors.items()))])
+    yield from one_shot_tasks(name, processors, first, is_all)
     if is_all or name in (V1, ASSEMBLY, "aarch64"):
         yield from stream_tasks(name, first, is_all)
-        yield from induction_tasks(name, made, first, is_all)
+        yield from induction_tasks(name, processors, first, is_all)
     if is_all or name == V1:
-        yield from xxh3_tasks(name, made, is_all)
+        yield from xxh3_tasks(name, processors, is_all)
 
 
-def one_shot_tasks(name, made, first, is_all):
+def one_shot_tasks(name, processors, first, is_all):
     """Yields the tasks of one-shots. Without --all the first build has the most lengths."""
-    for kind in comparison.kinds(SECRETS):
-        is_first = kind[2] is None and name in (V1, "aarch64")
-        lengths = [*ONE_BY_ONE, *LONGER[kind[0]]] if is_all else FEW if name in (V3, SCALAR_BUILD) else SOME
+    for algorithm in comparison.algorithms(SECRETS):
+        is_first = algorithm[2] is None and name in (V1, "aarch64")
+        lengths = [*ONE_BY_ONE, *LONGER[algorithm[0]]] if is_all else FEW if name in (V3, SCALAR_BUILD) else SOME
         if is_first and not is_all:
             lengths = SOME_SHORT
-        yield compared(first, f"{name}: {title_of(*kind)}, one-shots", comparison.requests(*kind, lengths))
-        if name in OF_BUILD and (is_all or kind in SOME_KINDS):
-            more = [] if kind[2] or is_plain(kind[0]) else [every_length.PREFETCHED]
+        yield compared(first, f"{name}: {title_of(*algorithm)}, one-shots", comparison.requests(*algorithm, lengths))
+        if name in OF_BUILD and (is_all or algorithm in SOME_ALGORITHMS):
+            more = [] if algorithm[2] or is_plain(algorithm[0]) else [every_length.PREFETCHED]
             lengths = [*LONG, *more] if is_all else LONG[1:2]
-            yield compared(made, f"{name}: {title_of(*kind)}, long one-shots", comparison.requests(*kind, lengths))
+            yield compared(processors, f"{name}: {title_of(*algorithm)}, long one-shots", comparison.requests(*algorithm, lengths))
 
 
-def stream_tasks(name, made, is_all):
+def stream_tasks(name, processors, is_all):
     """Yields the tasks of streams. An XXH3 stream has a seed, and a custom secret or one derived from the seed."""
-    for kind in comparison.kinds(SECRETS):
-        if kind[1] != "secret":
+    for algorithm in comparison.algorithms(SECRETS):
+        if algorithm[1] != "secret":
             some = STREAMED[name == V1::2]      # the builds share the code of short streams
-            asked = cuts.streams(*kind, cuts.STREAMED if is_all else some)
-            yield compared(made, f"{name}: {title_of(*kind)}, streams", asked, uses)
+            asked = cuts.streams(*algorithm, cuts.STREAMED if is_all else some)
+            yield compared(processors, f"{name}: {title_of(*algorithm)}, streams", asked, uses)
 
 
 # ---- inductions
 
-def induction_tasks(name, made, first, is_all):
+def induction_tasks(name, processors, first, is_all):
     """Yields the tasks of every length and of any updates of XXH32 and XXH64: all cases, or a sample. Only XXH32 calls
     the assembly source, by level."""
     for hash_name in every_length.UNROLLED:
         found, count = cases_of(hash_name, name == ASSEMBLY), len(list(any_updates.updates(hash_name)))
         cases = found[::1 if is_all else SOME_CASES]
-        levels = made if name == ASSEMBLY and hash_name == "32" else first
+        levels = processors if name == ASSEMBLY and hash_name == "32" else first
         for level, make in levels.items():
             yield counted(f"{name}, {level}: XXH{hash_name}: every length to 2^64 - 1", len(cases), functools.partial(
                 shown, make, hash_name, cases))
         for level, make in (levels if is_all else dict([*levels.items()][-1:])).items():
             for part in range(UPDATE_PARTS) if is_all else [None]:
-                words = f"part {part + 1} of {UPDATE_PARTS}" if is_all else f"each {SOME_UPDATES}th case"
+                portion = f"part {part + 1} of {UPDATE_PARTS}" if is_all else f"each {SOME_UPDATES}th case"
                 least = count // (UPDATE_PARTS if is_all else SOME_UPDATES)
-                title = f"{name}, {level}: streams of XXH{hash_name}: any updates, to 2^64 - 1 bytes, {words}"
+                title = f"{name}, {level}: streams of XXH{hash_name}: any updates, to 2^64 - 1 bytes, {portion}"
                 yield counted(title, least, functools.partial(
                     any_streams, make, hash_name, part, SOME_UPDATES, True, RustUpdates))
 
 
-def xxh3_tasks(name, made, is_all):
+def xxh3_tasks(name, processors, is_all):
     """Yields the tasks of XXH3 of every length in the Rust source: all cases, or a sample of two ways."""
-    kinds = [f"{name}:{way}" for name in ("3-64", "3-128") for way in ("default", "seed")]
-    for kind in kinds if is_all else (kinds[0], kinds[3]):
-        cases = cases_of(kind)[::1 if is_all else SOME_OF_XXH3]
-        for level, make in made.items():
-            yield counted(f"{name}, {level}: XXH{kind.replace(':', ', ')}: every length to 2^64 - 1", len(cases),
-                          functools.partial(shown, make, kind, cases))
-    for kind in [f"{name}:{way}" for name in ("3-64", "3-128") for way in ("secret", "both")] if is_all else ():
-        for level, make in made.items():
-            title = f"{name}, {level}: XXH{kind.replace(':', ', ')} of 192 to 199 bytes: every length from 241 on"
-            yield counted(title, len(of_any_secret()), functools.partial(shown, make, kind, of_any_secret()))
+    algorithms = [f"{name}:{way}" for name in ("3-64", "3-128") for way in ("default", "seed")]
+    for algorithm in algorithms if is_all else (algorithms[0], algorithms[3]):
+        cases = cases_of(algorithm)[::1 if is_all else SOME_OF_XXH3]
+        for level, make in processors.items():
+            yield counted(f"{name}, {level}: XXH{algorithm.replace(':', ', ')}: every length to 2^64 - 1", len(cases),
+                          functools.partial(shown, make, algorithm, cases))
+    for algorithm in [f"{name}:{way}" for name in ("3-64", "3-128") for way in ("secret", "both")] if is_all else ():
+        for level, make in processors.items():
+            title = f"{name}, {level}: XXH{algorithm.replace(':', ', ')} of 192 to 199 bytes: every length from 241 on"
+            yield counted(title, len(of_any_secret()), functools.partial(shown, make, algorithm, of_any_secret()))
 
 
-def shown(make, kind, cases):
-    proof = every_length.EveryLength(make(), kind)
+def shown(make, algorithm, cases):
+    proof = every_length.EveryLength(make(), algorithm)
     return count_shown(proof, [functools.partial(proof.show, case) for case in cases])
 
 
 # ---- the other calls
 
-def called_tasks(name, make, program, made, is_all):
+def called_tasks(name, make, program, processors, is_all):
     """Yields the tasks of the other calls, and of what they leave out."""
-    first, *others = made
+    first, *others = processors
     if name not in OF_BUILD:
         return
     if is_all or name == ASSEMBLY:
         yield counted(f"{name}: each export of the program is called", FEWEST_USES,
-                      functools.partial(all_called, made[first], program, is_all))
+                      functools.partial(all_called, processors[first], program, is_all))
     elif name != V3:
-        others = made
+        others = processors
     for level in others if is_all else [*others][-1:]:
         some = uses.STREAMS[0 if is_all else 4:]
-        yield of_each({level: made[level]}, f"{name}, {level}: streams by each way to start them", 25 * len(some),
+        yield of_each({level: processors[level]}, f"{name}, {level}: streams by each way to start them", 25 * len(some),
                       functools.partial(uses.by_each_way, is_cloned=False, asked=some))
     if program.level and (is_all or name in (V1, ASSEMBLY)):
         yield of_each({first: make}, f"{name}: the level by `cpuid`", 48, choice.choice)
     if name == ASSEMBLY:
-        yield of_each(made, "assembly: one-shots of XXH3 of any length above 240 bytes", 10, choice.long_inputs)
-        yield of_each(made, "assembly: chunks of XXH3 of any length that don't fit the buffer", 58, choice.long_chunks)
+        yield of_each(processors, "assembly: one-shots of XXH3 of any length above 240 bytes", 10, choice.long_inputs)
+        yield of_each(processors, "assembly: chunks of XXH3 of any length that don't fit the buffer", 58, choice.long_chunks)
         yield from raw_stream_tasks(name, first, make, is_all)
 
 
 def raw_stream_tasks(name, level, make, is_all):
     """Yields the tasks of streams of `RawHasher` over a secret of the caller, with any updates: all cases, or a sample."""
     each = 1 if is_all else SOME_OF_RAW
-    for width, what in itertools.product(xxh3_updates.WIDTHS, xxh3_streams.RawStreams.KINDS):
+    for width, what in itertools.product(xxh3_updates.WIDTHS, xxh3_streams.RawStreams.TASKS):
         yield counted(f"{name}, {level}: streams of XXH3-{width} by a RawHasher: {what}, to 2^64 - 1 bytes", FEWEST_OF_RAW[what] // each,
                       functools.partial(raw_streams, make, width, what, each))
 
@@ -166,8 +166,8 @@ def all_called(make, program, is_all):
     for least, ask in uses.calls(is_all):
         if ask(cpu) < least:
             return 0, ["fewer cases than expected"]
-    for kind in comparison.kinds(SECRETS[:1]):
-        uses.one_shot(cpu, next(comparison.requests(*kind, [17])))
+    for algorithm in comparison.algorithms(SECRETS[:1]):
+        uses.one_shot(cpu, next(comparison.requests(*algorithm, [17])))
     if program.level:
         choice.choice(cpu)
     exports = {name for name in program.exports if re.match(r"(xxh|raw_|secret_|processor_)", name)}

@@ -2,12 +2,12 @@
 call returns, refusals, and the other values of a stream. Each function returns its number of cases, or raises."""
 import functools
 
-from symbolic_terms import (Input, NotShown, Piece, Request, at_most, definition, given, is_same, is_same_number, minus,
-                            plus, seed_symbol, variable)
+from oracle.symbolic_terms import (Input, NotShown, Piece, Request, at_most, definition, given, is_same, is_same_number, minus,
+                                   plus, seed_symbol, variable)
 
 from .. import one_shots, streams
 from ..cargo import LONGEST_WITHOUT, SHORTEST, TOO_SHORT, call_into, expect_code, export_name
-from ..memory import Words
+from ..memory import WordMemory
 from ..one_shots import suppose_seed
 from ..values import address, low
 from .library import ForRust, ways
@@ -20,9 +20,9 @@ REFUSED = 1000                    # added by `secret_into_secret` to the length 
 LONGEST_SLICE = (1 << 63) - 1
 
 
-def expect(what, found, wanted):
-    if not (is_same(found, wanted) or is_same_number(found, wanted)):
-        raise NotShown(f"{what}: {found} and not {wanted}")
+def expect(what, found, expected):
+    if not (is_same(found, expected) or is_same_number(found, expected)):
+        raise NotShown(f"{what}: {found} and not {expected}")
 
 
 def started(cpu, hash_name, way, request, is_cloned=False):
@@ -44,11 +44,11 @@ def integers(cpu, only=""):
     for hash_name, way in [(name, way) for name, way in asked if way.prefix.startswith(only)]:
         for name, size in INTEGERS.items():
             for before in BEFORE:
-                request = Request(hash_name, way.kind, before + size, SHORTEST if way.kind == "both" else None)
+                request = Request(hash_name, way.variant, before + size, SHORTEST if way.variant == "both" else None)
                 state, library = started(cpu, hash_name, way, request)
                 library.update(cpu, hash_name, state, Piece(request.message, 0, before))
-                words = [request.message.load(at, min(8, size)) for at in range(before, before + size, 8)]
-                cpu.call(f"{way.prefix}write_{name}", address(state), *words)
+                values = [request.message.load(at, min(8, size)) for at in range(before, before + size, 8)]
+                cpu.call(f"{way.prefix}write_{name}", address(state), *values)
                 expect(f"{way.prefix}write_{name} after {before} bytes", library.digest(cpu, hash_name, state),
                        request.of_definition(entries))
                 count += 1
@@ -57,7 +57,7 @@ def integers(cpu, only=""):
 
 # ---- the other values of a stream
 
-def told(cpu):
+def getters(cpu):
     """Tests the seed, the number of bytes and the 32-bit hash of streams of XXH32 and XXH64."""
     for hash_name in HASHES[:2]:
         way, width, request = ways(hash_name)[0], int(hash_name), Request(hash_name, "seed", 37)
@@ -68,20 +68,20 @@ def told(cpu):
     hash_name, request = "32", Request("32", "seed", 20)
     state, library = started(cpu, hash_name, ways(hash_name)[0], request)
     library.update(cpu, hash_name, state, Piece(request.message, 0, 20))
-    for name, wanted in (("finish_32", request.of_definition(definition.program().run())), ("total_len_32", 20)):
-        expect(name, low(cpu.call(f"xxh32_{name}", address(state))[0], 32), wanted)
+    for name, expected in (("finish_32", request.of_definition(definition.program().run())), ("total_len_32", 20)):
+        expect(name, low(cpu.call(f"xxh32_{name}", address(state))[0], 32), expected)
     return 6
 
 
 # ---- secrets
 
-def expect_bytes(what, memory, wanted, count):
+def expect_bytes(what, memory, expected, count):
     for at in range(count):
-        expect(f"{what}, byte {at}", memory.load(at, 1), wanted[at])
+        expect(f"{what}, byte {at}", memory.load(at, 1), expected[at])
 
 
 def new_bytes(cpu, size):
-    return Words("secret", size, [(at, 1, cpu.fresh("a byte", 8)) for at in range(size)])
+    return WordMemory("secret", size, [(at, 1, cpu.fresh("a byte", 8)) for at in range(size)])
 
 
 def secrets(cpu):
@@ -90,8 +90,8 @@ def secrets(cpu):
     for hash_name in HASHES[2:]:
         asked = f"{export_name(hash_name)}_", f"raw_given_{hash_name.replace('-', '_')}_"
         for way in [way for way in ways(hash_name) if way.prefix in asked]:
-            size = 137 if way.kind == "both" else DERIVED
-            request = Request(hash_name, way.kind, 1000, size if way.kind == "both" else None)
+            size = 137 if way.variant == "both" else DERIVED
+            request = Request(hash_name, way.variant, 1000, size if way.variant == "both" else None)
             state, _ = started(cpu, hash_name, way, request)
             to = new_bytes(cpu, size)
             cpu.live = [*cpu.live, to]
@@ -119,8 +119,8 @@ def secret_buffers(cpu, derived_secret):
     cpu.live = [to]
     expect("a refused buffer", low(cpu.call("secret_with_seed_in_191", address(to), seed)[0], 32), NEVER_DERIVED)
     streams.expect_same("a refusal", before, to, 1)
-    for value, wanted in zip(cpu.call("secret_lengths"), (DERIVED, SHORTEST), strict=True):
-        expect("a length", value, wanted)
+    for value, expected in zip(cpu.call("secret_lengths"), (DERIVED, SHORTEST), strict=True):
+        expect("a length", value, expected)
     return 6
 
 
@@ -132,7 +132,7 @@ def refused(cpu):
     for hash_name in HASHES[2:]:
         count += refused_one_shots(cpu, hash_name)
         for way in ways(hash_name):
-            if way.kind == "both":
+            if way.variant == "both":
                 count += refused_start(cpu, hash_name, way)
     return count
 
@@ -180,10 +180,10 @@ def by_each_way(cpu, is_cloned, asked=STREAMS):
     for hash_name in HASHES:
         for way in ways(hash_name):
             for length, *cuts in asked:
-                fixed = 0 if way.kind == "zero" else None
-                request = Request(hash_name, "seed" if way.kind == "zero" else way.kind, length,
-                                  SHORTEST if way.kind == "both" else None, fixed, cuts)
-                key = hash_name, request.kind, length, fixed
+                fixed = 0 if way.variant == "zero" else None
+                request = Request(hash_name, "seed" if way.variant == "zero" else way.variant, length,
+                                  SHORTEST if way.variant == "both" else None, fixed, cuts)
+                key = hash_name, request.variant, length, fixed
                 if key not in texts:
                     texts[key] = request.of_definition(entries)
                 found = written(cpu, hash_name, way, request, is_cloned)
@@ -194,7 +194,7 @@ def by_each_way(cpu, is_cloned, asked=STREAMS):
 
 def of_text(cpu, request):
     """Returns the hash of a stream, begun in the first way for a request's kind."""
-    way = next(way for way in ways(request.hash_name) if way.kind == request.kind)
+    way = next(way for way in ways(request.hash_name) if way.variant == request.variant)
     return written(cpu, request.hash_name, way, request)
 
 
@@ -211,4 +211,4 @@ def calls(is_all):
     """Returns the minimum number of cases and the function of each test. Without `is_all`, streams have few lengths."""
     some = STREAMS[0 if is_all else 1::1 if is_all else 2]
     by_way = [(25 * len(some), functools.partial(by_each_way, is_cloned=is_cloned, asked=some)) for is_cloned in (False, True)]
-    return [(4 * 6 * 6, integers), (6, told), (8, secrets), (16, refused), *by_way]
+    return [(4 * 6 * 6, integers), (6, getters), (8, secrets), (16, refused), *by_way]

@@ -4,7 +4,7 @@ stream, its secret and the chunk; ../cargo_streams.py proves this call. Digests 
 import functools
 import types
 
-from symbolic_terms import LONGEST, Input, NotShown, Piece, Request, at_most, given, is_same_number, plus, same, times
+from oracle.symbolic_terms import LONGEST, Input, NotShown, Piece, Request, at_most, given, is_same_number, plus, same, times
 
 from .. import layouts
 from ..cargo_streams import CargoUpdates
@@ -21,7 +21,7 @@ WRITES = "_xxh3_write", "_xxh3_write_v3", "_xxh3_write_v4"         # ends of the
 
 
 class RawStreams(CargoUpdates):
-    KINDS, HAS_SEED, has_seed = (UPDATES, DIGESTS), (1,), 1
+    TASKS, HAS_SEED, has_seed = (UPDATES, DIGESTS), (1,), 1
 
     def __init__(self, cpu, width="64"):
         self.hash_name = f"3-{width}"
@@ -46,7 +46,7 @@ class RawStreams(CargoUpdates):
         calls, state = [], self.filled(cpu, Input("s", 136))
         try:
             self.replace(cpu, functools.partial(choice.record, cpu, calls, True))
-            cpu.library.update(cpu, self.hash_name, state, Input("chunk", layouts.CORE.room))
+            cpu.library.update(cpu, self.hash_name, state, Input("chunk", layouts.CORE.capacity))
         finally:
             cpu.replaced = {}
         (((memory, at), *_),) = calls
@@ -64,8 +64,8 @@ class RawStreams(CargoUpdates):
         other = self.filled(self.cpu, self.secret_source)
         self.cpu.loops = loops
         cells = [(at, n, x) for at, (n, x) in other.cells.items() if at not in self.span]
-        state = State("state", other.length, cells, [*self.buffered(place, f), *runs], (self.at.buffer, self.at.buffer + self.room))
-        for at, x in [*self.words(self.accumulators(place)), *self.numbers(place, f)]:
+        state = State("state", other.length, cells, [*self.buffered(place, f), *runs], (self.at.buffer, self.at.buffer + self.capacity))
+        for at, x in [*self.cells_of(self.accumulators(place)), *self.numbers(place, f)]:
             state.store(at, 8, x)
         return state
 
@@ -77,7 +77,7 @@ class RawStreams(CargoUpdates):
         with given(*self.facts):
             state, _ = uses.started(self.cpu, self.hash_name, self.way, request)
             other = self.filled(self.cpu, self.secret_source)
-            for at, x in [*self.words(map(self.after(0), range(8))), *self.numbers((0, 0), 0)]:
+            for at, x in [*self.cells_of(map(self.after(0), range(8))), *self.numbers((0, 0), 0)]:
                 uses.expect(f"a new stream at {at}", state.load(at, 8), x)
             if not all(same(state.cells.get(at, (n, None))[1], x) for at, (n, x) in other.cells.items() if at not in self.span):
                 raise NotShown("a new stream has other fields")

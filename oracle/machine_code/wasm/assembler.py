@@ -30,19 +30,19 @@ def vector(items):
     return unsigned(len(items)) + b"".join(items)
 
 
-def section(kind, body):
-    return bytes([kind]) + unsigned(len(body)) + body
+def section(section_id, body):
+    return bytes([section_id]) + unsigned(len(body)) + body
 
 
 def with_sign(n, width):
     return n - (n >> width - 1 << width)
 
 
-def given(behind, words):
+def given(behind, operands):
     """Returns the immediates of an instruction, encoded."""
-    numbers = [int(word, 0) for word in words if word not in CODES]
+    numbers = [int(word, 0) for word in operands if word not in CODES]
     if behind == "block":
-        return bytes([CODES[words[0]] if words else 0x40])
+        return bytes([CODES[operands[0]] if operands else 0x40])
     if behind in ("i32", "i64"):
         return signed(with_sign(numbers[0], int(behind[1:])))
     if behind.startswith("bytes"):          # an alignment and an offset
@@ -59,10 +59,10 @@ def given(behind, words):
 def assembled(text):
     out = b""
     for line in filter(None, map(str.strip, text.split(";"))):
-        name, *words = line.split()
+        name, *operands = line.split()
         opcode = BY_NAME[name]
         code = unsigned(opcode.code) if opcode.prefix is None else bytes([opcode.prefix]) + unsigned(opcode.code)
-        out += (bytes([opcode.code]) if opcode.prefix is None else code) + given(opcode.behind, words)
+        out += (bytes([opcode.code]) if opcode.prefix is None else code) + given(opcode.behind, operands)
     return out
 
 

@@ -1,6 +1,6 @@
 """Calls a module for a request like web/twox_hash.js: one-shots, and streams whose record is saved and restored after
 an update. A call that succeeds must write its value; a refused one must write nothing."""
-from symbolic_terms import Memory, Node, Piece, Unsupported
+from oracle.symbolic_terms import Memory, Node, Piece, Unsupported
 
 from .. import layouts
 from .values import address
@@ -11,7 +11,7 @@ WAYS = {"default": "", "seed": "_with_seed", "secret": "_with_secret", "both": "
 OF_32 = layouts.PLAIN_RECORDS["32"]
 # Layouts of streams' records, and bytes that the JavaScript sets to 0 in a saved state.
 RECORDS = {"xxh32": OF_32, "xxh64": layouts.PLAIN_RECORDS["64"], "xxh3": layouts.RECORD}
-PADDING = {"xxh32": range(OF_32.buffer + OF_32.room, OF_32.marked)}
+PADDING = {"xxh32": range(OF_32.buffer + OF_32.capacity, OF_32.marked)}
 DERIVED = 192                                               # bytes of the secret derived from a seed
 
 
@@ -28,7 +28,7 @@ def export(hash_name):
 
 
 def name_of_one_shot(request):
-    return export(request.hash_name) + ("" if is_plain(request.hash_name) else WAYS[request.kind])
+    return export(request.hash_name) + ("" if is_plain(request.hash_name) else WAYS[request.variant])
 
 
 def begin(vm, request):
@@ -79,7 +79,7 @@ def refused_one_shot(vm, request):
     """Tests a one-shot whose secret is too short."""
     out = Memory("the value", BYTES[request.hash_name])
     answered(call_one_shot(vm, request, out), SECRET_TOO_SHORT)
-    expect_kept("the value", out, {})
+    expect_unchanged("the value", out, {})
 
 
 def refused_start(vm, request):
@@ -87,7 +87,7 @@ def refused_start(vm, request):
     Stream(vm, request).refused_start()
 
 
-def expect_kept(what, memory, cells):
+def expect_unchanged(what, memory, cells):
     """Checks that the memory is unchanged."""
     if memory.cells != cells:
         raise Unsupported(f"{what} isn't as it was")
@@ -146,15 +146,15 @@ class Stream:
             Page.reset(self.vm, self.request, self.record)
 
     def start_with_secret(self):
-        seed, name = begin(self.vm, self.request), "twox_xxh3_start" + WAYS[self.request.kind]
-        seeds = [seed] if self.request.kind == "both" else []
+        seed, name = begin(self.vm, self.request), "twox_xxh3_start" + WAYS[self.request.variant]
+        seeds = [seed] if self.request.variant == "both" else []
         return self.vm.call(name, [address(self.record), *seeds, *self.secret])
 
     def refused_start(self):
         """Tests a start whose secret is too short."""
         before = dict(self.record.cells)
         answered(self.start_with_secret(), SECRET_TOO_SHORT)
-        expect_kept("the record", self.record, before)
+        expect_unchanged("the record", self.record, before)
 
     def update(self, first, end):
         piece = Piece(self.request.message, first, end - first)
@@ -180,10 +180,10 @@ def stream(vm, request):
     it, at = Stream(vm, request), 0
     it.start()
     for end in [*request.cuts, request.length]:
-        kept = dict(it.derived.cells) if it.derived else None
+        derived_before = dict(it.derived.cells) if it.derived else None
         answered(it.update(at, end))
         if it.derived:
-            expect_kept("the derived secret", it.derived, kept)
+            expect_unchanged("the derived secret", it.derived, derived_before)
         if at == 0 and request.cuts:
             it.save_and_restore()
         at = end
@@ -192,9 +192,9 @@ def stream(vm, request):
 
 def digest_of(it):
     out, before = Memory("the value", BYTES[it.request.hash_name]), dict(it.record.cells)
-    kept = dict(it.derived.cells) if it.derived else None
+    derived_before = dict(it.derived.cells) if it.derived else None
     answered(it.digest(out))
-    expect_kept("the record, at a digest,", it.record, before)
+    expect_unchanged("the record, at a digest,", it.record, before)
     if it.derived:
-        expect_kept("the derived secret", it.derived, kept)
+        expect_unchanged("the derived secret", it.derived, derived_before)
     return out.load(0, out.length)

@@ -1,6 +1,6 @@
 """Compares the modules with the definition: for each request both must compute the same term."""
-from symbolic_terms import Request, comparison, definition, nodes
-from symbolic_terms.cuts import cuts_of
+from oracle.symbolic_terms import Request, comparison, definition, nodes
+from oracle.symbolic_terms.cuts import cuts_of
 
 MOST_NODES = 300_000
 
@@ -15,27 +15,27 @@ class Texts:
         nodes.forget()
         self.entries, self.known = definition.program().run(), {}
 
-    def make_room(self):
+    def limit_memory(self):
         if len(nodes.NODES) > MOST_NODES:
             self.forget()
 
     def value(self, request):
-        key = request.hash_name, request.kind, request.length, request.secret_length, request.fixed_seed
+        key = request.hash_name, request.variant, request.length, request.secret_length, request.fixed_seed
         if key not in self.known:
             self.known[key] = request.of_definition(self.entries)
         return self.known[key]
 
 
-def requests(kind, lengths, is_stream):
+def requests(algorithm, lengths, is_stream):
     """Yields the requests of a kind, (hash, function, length of the secret). A symbolic seed is nonzero if a module
     tests it."""
     for length in lengths:
         for cuts in cuts_of(length) if is_stream else [None]:
-            yield Request(*kind[:2], length, kind[2], cuts=cuts)
+            yield Request(*algorithm[:2], length, algorithm[2], cuts=cuts)
 
 
 def with_seed_0(request):
-    return Request(request.hash_name, request.kind, request.length, request.secret_length, 0, request.cuts)
+    return Request(request.hash_name, request.variant, request.length, request.secret_length, 0, request.cuts)
 
 
 def compare(machines, asked, answer):
@@ -43,17 +43,17 @@ def compare(machines, asked, answer):
     others. If a module tests the seed for 0, the request is repeated with the seed 0."""
     texts, equal, complaints = Texts(), 0, []
     for request in asked:
-        texts.make_room()
+        texts.limit_memory()
         for name, vm in machines.items():
             vm.has_asked = False
-            told = [told_of(texts, name, vm, request, answer)]
+            messages = [messages_of(texts, name, vm, request, answer)]
             if vm.has_asked:
-                told.append(told_of(texts, name, vm, with_seed_0(request), answer))
-            equal += told.count(None)
-            complaints += [line for line in told if line]
+                messages.append(messages_of(texts, name, vm, with_seed_0(request), answer))
+            equal += messages.count(None)
+            complaints += [line for line in messages if line]
     return equal, complaints
 
 
-def told_of(texts, name, vm, request, answer):
+def messages_of(texts, name, vm, request, answer):
     """Returns the message on a machine's value, or None."""
     return comparison.difference(request, name, texts.value(request), lambda asked: answer(vm, asked))

@@ -15,10 +15,10 @@ function called(exports, name, place) {
 for await (const line of createInterface({ input: process.stdin })) {
   const { module, calls, place } = JSON.parse(line);
   const bytes = Buffer.from(module, "hex");
-  const told = [WebAssembly.validate(bytes)];
+  const outputs = [WebAssembly.validate(bytes)];
   if (calls > 0) {
     const { exports } = new WebAssembly.Instance(new WebAssembly.Module(bytes), {});
-    for (let i = 0; i < calls; i += 1) told.push(called(exports, `f${i}`, place));
+    for (let i = 0; i < calls; i += 1) outputs.push(called(exports, `f${i}`, place));
   }
-  console.log(told.join(" "));
+  console.log(outputs.join(" "));
 }

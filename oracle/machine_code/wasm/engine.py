@@ -28,60 +28,60 @@ def edges(width):
             2 * top - 1]
 
 
-def pushed(width, draw):
+def pushed(width, rng):
     if width == 128:
-        lanes = [draw.choice(edges(64) + [draw.getrandbits(64)] * 8) for _ in range(2)]
+        lanes = [rng.choice(edges(64) + [rng.getrandbits(64)] * 8) for _ in range(2)]
         return f"v128.const {lanes[0]} {lanes[1]}"
-    value = draw.choice(edges(width) + [draw.getrandbits(width)] * 8)
+    value = rng.choice(edges(width) + [rng.getrandbits(width)] * 8)
     return f"i{width}.const {value}"
 
 
-def behind(opcode, draw):
+def behind(opcode, rng):
     """Returns random immediates of an instruction that takes values and leaves one."""
     if opcode.behind == "lanes":
-        first = draw.randrange(32)
+        first = rng.randrange(32)
         in_order = [str((first + k) % 32) for k in range(16)]
-        return " ".join(draw.choice((in_order, [str(draw.randrange(32)) for _ in range(16)])))
-    return str(draw.randrange(int(opcode.behind[len("lane"):]))) if opcode.behind else ""
+        return " ".join(rng.choice((in_order, [str(rng.randrange(32)) for _ in range(16)])))
+    return str(rng.randrange(int(opcode.behind[len("lane"):]))) if opcode.behind else ""
 
 
-def of_values(opcode, draw):
+def of_values(opcode, rng):
     """Yields functions that run an instruction on all edge cases of words, and on random numbers."""
     widths = opcode.takes
-    drawn = [[pushed(width, draw) for width in widths] for _ in range(RANDOM * (3 if 128 in widths else 1))]
+    samples = [[pushed(width, rng) for width in widths] for _ in range(RANDOM * (3 if 128 in widths else 1))]
     if 128 not in widths:
         several = [[f"i{width}.const {value}" for value in edges(width)] for width in widths]
-        drawn += [[a] for a in several[0]] if len(several) == 1 else [[a, b] for a in several[0] for b in several[1]]
-    for operands in drawn:
-        yield ANSWER + "; ".join([*operands, f"{opcode.name} {behind(opcode, draw)}", STORES[opcode.leaves[0]]])
+        samples += [[a] for a in several[0]] if len(several) == 1 else [[a, b] for a in several[0] for b in several[1]]
+    for operands in samples:
+        yield ANSWER + "; ".join([*operands, f"{opcode.name} {behind(opcode, rng)}", STORES[opcode.leaves[0]]])
 
 
-def pattern(draw):
-    return "; ".join(f"i32.const {PATTERN}; i64.const {draw.getrandbits(64)}; i64.store {at}" for at in range(0, 32, 8))
+def pattern(rng):
+    return "; ".join(f"i32.const {PATTERN}; i64.const {rng.getrandbits(64)}; i64.store {at}" for at in range(0, 32, 8))
 
 
-def of_memory(opcode, draw):
+def of_memory(opcode, rng):
     """Yields functions that load from, or store to, a pattern in memory at any alignment, and past the memory's end."""
     size, is_load = int(opcode.behind[len("bytes"):]), opcode.leaves
     for _ in range(RANDOM):
-        at, offset = draw.randrange(16), draw.choice((0, 0, 1, 7, 300))
+        at, offset = rng.randrange(16), rng.choice((0, 0, 1, 7, 300))
         place = f"i32.const {PATTERN + at - offset}"
         if is_load:
-            yield f"{pattern(draw)}; {ANSWER}{place}; {opcode.name} {offset}; {STORES[opcode.leaves[0]]}"
+            yield f"{pattern(rng)}; {ANSWER}{place}; {opcode.name} {offset}; {STORES[opcode.leaves[0]]}"
         else:
-            access = f"{place}; {pushed(opcode.takes[1], draw)}; {opcode.name} {offset}"
-            yield f"{pattern(draw)}; {access}; {ANSWER}i32.const {PATTERN}; v128.load {max(0, at - 3)}; v128.store 0"
+            access = f"{place}; {pushed(opcode.takes[1], rng)}; {opcode.name} {offset}"
+            yield f"{pattern(rng)}; {access}; {ANSWER}i32.const {PATTERN}; v128.load {max(0, at - 3)}; v128.store 0"
     for end in (PAGES * PAGE - size + 1, PAGES * PAGE, (1 << 32) - 1):
         for offset in (0, 5, (1 << 32) - 1):
-            value = "" if is_load else pushed(opcode.takes[1], draw) + "; "
+            value = "" if is_load else pushed(opcode.takes[1], rng) + "; "
             answer = f"{STORES[opcode.leaves[0]]}" if is_load else "drop"
             yield f"{ANSWER}i32.const {end}; {value}{opcode.name} {offset}; {answer}"
 
 
-def of_constant(opcode, draw):
+def of_constant(opcode, rng):
     width = opcode.leaves[0]
     for _ in range(RANDOM):
-        yield f"{ANSWER}{pushed(width, draw)}; {STORES[width]}"
+        yield f"{ANSWER}{pushed(width, rng)}; {STORES[width]}"
     for value in [*edges(64), *(1 << k for k in range(64))] if width < 128 else []:
         yield f"{ANSWER}i{width}.const {value % (1 << width)}; {STORES[width]}"
 
@@ -122,12 +122,12 @@ BODIES = {
 }
 
 
-def functions(opcode, draw):
+def functions(opcode, rng):
     if opcode.name in BODIES:
         return [BODIES[opcode.name].replace("%", number) for number in NUMBERS]
     if opcode.behind.startswith("bytes"):
-        return list(of_memory(opcode, draw))
-    return list(of_values(opcode, draw) if opcode.takes else of_constant(opcode, draw))
+        return list(of_memory(opcode, rng))
+    return list(of_values(opcode, rng) if opcode.takes else of_constant(opcode, rng))
 
 
 # ---- both runs
@@ -148,19 +148,19 @@ def by_engine(asked):
     lines = "\n".join(json.dumps({"module": whole.hex(), "calls": calls, "place": RESULT}) for whole, calls in asked)
     done = subprocess.run([shutil.which("node"), os.path.join(HERE, "engine.mjs")], input=lines, text=True, check=True,
                           stdout=subprocess.PIPE)
-    told = [line.split() for line in done.stdout.splitlines()]
-    if len(told) != len(asked):
+    outputs = [line.split() for line in done.stdout.splitlines()]
+    if len(outputs) != len(asked):
         raise SystemExit("the engine told of other modules than it was asked")
-    return told
+    return outputs
 
 
 def compare_instructions(machines):
     """Compares each instruction of the table on the machine and on the engine."""
-    draw, asked = random.Random(3), []
+    rng, asked = random.Random(3), []
     for opcode in BY_NAME.values():
-        asked.append((opcode.name, functions(opcode, draw)))
-    told, bad, count = by_engine([(assembler.module(texts), len(texts)) for _, texts in asked]), [], 0
-    for (name, texts), (is_valid, *theirs) in zip(asked, told, strict=True):
+        asked.append((opcode.name, functions(opcode, rng)))
+    outputs, bad, count = by_engine([(assembler.module(texts), len(texts)) for _, texts in asked]), [], 0
+    for (name, texts), (is_valid, *theirs) in zip(asked, outputs, strict=True):
         ours = by_machine(assembler.module(texts), len(texts))
         count += len(ours)
         bad += [f"{name}: {a} here and {b} by the engine: {text}"
@@ -183,12 +183,12 @@ def verdict(whole):
 def compare_validity(machines, count):
     """Compares the validity of `count` changed modules of each machine: the engine must accept modules that are valid
     here, and refuse those that are invalid here."""
-    draw, asked = random.Random(4), []
+    rng, asked = random.Random(4), []
     for vm in machines.values():
         for _ in range(count):
             whole = bytearray(vm.module.whole)
-            place = draw.randrange(8, len(whole))
-            whole[place] = draw.choice((whole[place] ^ 1 << draw.randrange(8), draw.randrange(256)))
+            place = rng.randrange(8, len(whole))
+            whole[place] = rng.choice((whole[place] ^ 1 << rng.randrange(8), rng.randrange(256)))
             asked.append((bytes(whole), 0))
     ours, bad = [verdict(whole) for whole, _ in asked], []
     for (whole, _), mine, (theirs,) in zip(asked, ours, by_engine(asked), strict=True):

@@ -5,9 +5,9 @@ XXH32 and XXH64: stripe * a + r bytes, r a number. XXH3 above 240 bytes: 64 q B 
 secrets, of 64 + 8 q + u bytes, u < 8, J is symbolic, and q is a number below 16, or symbolic and at least 17."""
 import collections
 
-import specs
-from symbolic_terms import (Bytes, NotShown, Request, at_most, given, minus, nodes, plus, seed_symbol, suppositions,
-                            times, variable)
+from oracle import specs
+from oracle.symbolic_terms import (Bytes, NotShown, Request, at_most, given, minus, nodes, plus, seed_symbol, suppositions,
+                                   times, variable)
 
 from ..every_length import Cases
 from ..induction import Family
@@ -23,7 +23,7 @@ OWN_SECRET = "secret", "both"
 LONG = 241                        # minimum length of XXH3 with loops
 BLOCK = 1024                      # bytes of a block with a secret of 192 to 199 bytes
 FAR = 31_744                      # from this length on the modules have separate code for blocks
-KINDS = [("32", "seed"), ("64", "seed"), *((name, way) for name in ("3-64", "3-128") for way in WAYS)]
+ALGORITHMS = [("32", "seed"), ("64", "seed"), *((name, way) for name in ("3-64", "3-128") for way in WAYS)]
 
 
 # Lengths 1024 B + 64 J + t + 1 with least_blocks <= B <= most_blocks (None: no maximum) and least <= t <= most.
@@ -95,7 +95,7 @@ class Proof(Cases):
     def __init__(self, vm):
         nodes.forget()
         super().__init__(vm)
-        self.told, self.cases = [], 0
+        self.messages, self.cases = [], 0
 
     def call(self, family, request):
         """Returns the result of a one-shot. Proves the loops of a family by induction."""
@@ -178,7 +178,7 @@ class Proof(Cases):
         parts = Part((0, 0), times(q, B), (B, 0)), Part((B, 0), J, (B, J))
         with given(*facts_of(case, q, B, J), at_most(t, 63), at_most(u, 7), at_most(size, LONGEST), minus(n, LONG),
                    *([minus(n, FAR), at_most(n, LONGEST)] if case.is_far else [at_most(n, FAR - 1)])):
-            self.of_blocks(hash_name, way, n, size, lambda name, *words: Stripes(name, q, parts, *words))
+            self.of_blocks(hash_name, way, n, size, lambda name, *args: Stripes(name, q, parts, *args))
 
 
 def shortest(hash_name, way):

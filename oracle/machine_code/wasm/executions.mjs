@@ -49,9 +49,9 @@ class Machine {
     this.bytes = Buffer.from(this.exports.memory.buffer);
   }
   // The result of a call, or "trap".
-  call(name, words) {
+  call(name, args) {
     try {
-      return String(this.exports[name](...words));
+      return String(this.exports[name](...args));
     } catch (error) {
       if (error instanceof WebAssembly.RuntimeError || error instanceof RangeError) return "trap";
       throw error;
@@ -67,14 +67,14 @@ class Pair {
   constructor(machines, random) {
     Object.assign(this, { machines, random });
   }
-  call(name, words, length = 0) {
+  call(name, args, length = 0) {
     const found = this.machines.map((machine) => {
       const before = machine.shown(machine.record, 1024);
-      const result = machine.call(name, words.map((word) => (typeof word === "string" ? machine[word] : word)));
-      const isKept = machine.shown(machine.record, 1024) === before;
-      return [result, machine.shown(machine.value, 64), (length > 0 || result !== "0") && isKept].join(" ");
+      const result = machine.call(name, args.map((word) => (typeof word === "string" ? machine[word] : word)));
+      const isUnchanged = machine.shown(machine.record, 1024) === before;
+      return [result, machine.shown(machine.value, 64), (length > 0 || result !== "0") && isUnchanged].join(" ");
     });
-    if (found[0] !== found[1]) throw new Error(`${name}(${words.join(", ")}): ${found.join(" / ")}`);
+    if (found[0] !== found[1]) throw new Error(`${name}(${args.join(", ")}): ${found.join(" / ")}`);
     return found[0].split(" ")[0];
   }
   write(place, bytes) {
@@ -132,13 +132,13 @@ function damage(pair) {
 function stream(pair) {
   const { random } = pair, family = random.of(STREAMS), longest = random.of([40, 300, 1500, 7000]);
   pair.fill("record", 1024);
-  const words = started(pair, family);
-  if (!words) return;
+  const args = started(pair, family);
+  if (!args) return;
   const widths = family === "xxh3" ? ["3_64", "3_128"] : [family.slice(3)];
   for (let left = 1 + random.below(6); left > 0; left -= 1) {
     if (random.below(12) === 0) damage(pair);
-    pair.call(`twox_${family}_update`, [...words, "message", random.length(longest)]);
-    for (const width of widths) pair.call(`twox_xxh${width}_digest`, [...words, "value"], 16);
+    pair.call(`twox_${family}_update`, [...args, "message", random.length(longest)]);
+    for (const width of widths) pair.call(`twox_xxh${width}_digest`, [...args, "value"], 16);
   }
 }
 

@@ -2,7 +2,7 @@
 
 A cell is a variable, a lane of one, a value on the operand stack, a global, or a cell of the stack's or a live object's
 memory. After the proof of a loop, execution continues with its last iteration."""
-from symbolic_terms import RUNS, NotShown, minus
+from oracle.symbolic_terms import RUNS, NotShown, minus
 
 from ..induction import Proof
 from ..stripes import Stripes, StripesProof
@@ -14,7 +14,7 @@ class Loops:
     iteration. `live` has the memories, besides the stack, that a call may write to."""
 
     def __init__(self, family, live):
-        self.family, self.live, self.refused, self.told = family, list(live), [], []
+        self.family, self.live, self.refused, self.messages = family, list(live), [], []
         self.is_busy, self.is_guessing, self.guesses, self.tried = family is None, False, {}, set()
 
     def pass_by(self, vm, frame):
@@ -24,7 +24,7 @@ class Loops:
         try:
             if proof.show():
                 proof.leave()
-                self.told.append(f"{self.family.name}: {proof.step} stripes a turn, {len(proof.places)} places go on")
+                self.messages.append(f"{self.family.name}: {proof.step} stripes a turn, {len(proof.places)} places go on")
         finally:
             self.is_busy = False
 
@@ -33,11 +33,11 @@ def proved(proof, family, live, ask):
     """Returns a call's result. Proves the loops of the family, if any. The call may write to `live`."""
     loops = Loops(family, live)
     result = proof.with_loops(loops, ask)
-    if family and not loops.told:
+    if family and not loops.messages:
         raise NotShown(f"{family.name}: no such loop was met")
     if proof.cpu.has_asked:
         raise NotShown("whether the seed is 0 was asked, which is another case")
-    proof.told += loops.told
+    proof.messages += loops.messages
     return result
 
 
@@ -70,12 +70,12 @@ class AtHead:
         for memory, at, size in (cell for cell in cells if not isinstance(cell[0], str)):
             memory.cells[at] = size, cells[memory, at, size]
         for cell in (cell for cell in self.start if isinstance(cell[0], str)):
-            (kind, k, *lane), x = cell, self.anything(cell) if cell in self.unset else cells[cell]
-            if kind == "variable":
+            (place, k, *lane), x = cell, self.anything(cell) if cell in self.unset else cells[cell]
+            if place == "variable":
                 variables[k] = x
-            elif kind == "lane":
+            elif place == "lane":
                 variables[k] = tuple(x if j == lane[0] else part for j, part in enumerate(variables[k]))
-            elif kind == "global":
+            elif place == "global":
                 self.cpu.globals[k] = x
             else:
                 stack.append(x)

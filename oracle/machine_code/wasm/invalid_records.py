@@ -12,12 +12,12 @@ All other fields have any value. Of wrong accumulators there is one at a time.""
 import itertools
 import random
 
-from symbolic_terms import Input, Memory, Request, at_most, given, minus, parts_of, plus, times, value_at, variable
-from symbolic_terms.polynomials import names_of
+from oracle.symbolic_terms import Input, Memory, Request, at_most, given, minus, parts_of, plus, times, value_at, variable
+from oracle.symbolic_terms.polynomials import names_of
 
 from .. import coverage
 from . import calls
-from .calls import NOT_A_STREAM, Stream, answered, expect_kept
+from .calls import NOT_A_STREAM, Stream, answered, expect_unchanged
 from .every_length import LEAST_STRIPES, LONGEST
 from .values import address
 
@@ -49,11 +49,11 @@ def by_length():
     return [(n, [at_most(n, FEW)]), (plus(n, FEW + 1), [at_most(plus(n, FEW + 1), LONGEST)])]
 
 
-def by_room(used):
+def by_capacity(used):
     """Returns the same with those that the buffer has room for apart."""
     (n, few), others = by_length()
     together = plus(used, n)
-    return [(n, [*few, at_most(together, AT.room)]), (n, [*few, minus(together, AT.room + 1)]), others]
+    return [(n, [*few, at_most(together, AT.capacity)]), (n, [*few, minus(together, AT.capacity + 1)]), others]
 
 
 def apart_from(x, most):
@@ -69,22 +69,22 @@ def of_plain(hash_name, initial):
     """Yields the invalid records of XXH32 or XXH64."""
     at, size = calls.RECORDS[f"xxh{hash_name}"], int(hash_name) // 8
     r, u = variable("r"), variable("u")
-    whole = times(at.room, variable("t"))
-    behind = plus(u, at.room)
+    whole = times(at.capacity, variable("t"))
+    behind = plus(u, at.capacity)
 
     def one(what, total, used, *facts, more=()):
         fields = [(at.total, 8, total), (at.marked, 8, used), *more]
         return Invalid(hash_name, what, fields, [*facts, at_most(used, MOST)], any_chunk())
-    for total, fact in ((plus(whole, r), [at_most(plus(whole, r), MOST - 1), at_most(r, at.room - 1)]), (MOST, [])):
+    for total, fact in ((plus(whole, r), [at_most(plus(whole, r), MOST - 1), at_most(r, at.capacity - 1)]), (MOST, [])):
         yield one(f"a stripe and more is buffered, of {total} bytes", total, behind, *fact)
-    for used, rest, fact in ((u, plus(r, 1), minus(r, u)), (plus(r, u, 1), r, minus(at.room - 1, plus(r, u, 1)))):
+    for used, rest, fact in ((u, plus(r, 1), minus(r, u)), (plus(r, u, 1), r, minus(at.capacity - 1, plus(r, u, 1)))):
         total = plus(whole, rest)
         yield one(f"{used} bytes are buffered, of {total}", total, used, fact, at_most(total, MOST - 1),
-                  at_most(rest, at.room - 1))
+                  at_most(rest, at.capacity - 1))
     begun = [*zip(at.accumulators, itertools.repeat(size), initial), (at.seed, size, SEED)]
     for place, _, x in begun[:-1]:
         for value, fact in apart_from(x, 2 ** (8 * size) - 1):
-            yield one(f"{value} at {place}", u, u, fact, at_most(u, at.room - 1), more=[*begun, (place, size, value)])
+            yield one(f"{value} at {place}", u, u, fact, at_most(u, at.capacity - 1), more=[*begun, (place, size, value)])
 
 
 # ---- XXH3
@@ -128,7 +128,7 @@ def with_no_stripe(initial):
         for value, fact in apart_from(x, MOST):
             more = [(AT.current_stripe, 8, 0), *begun, (at, 8, value)]
             yield of_xxh3(f"{value} at {at}", 0, u, u, [of_use, fact], more=more)
-    behind = plus(u, AT.room + 1)
+    behind = plus(u, AT.capacity + 1)
     yield of_xxh3("too many", 0, behind, behind, [at_most(behind, MOST)], by_length(), [(AT.current_stripe, 8, 0), *begun])
 
 
@@ -136,9 +136,9 @@ def out_of_range(q):
     """Yields records with stripes taken, and a position behind the q stripes of a block, or too many or no buffered
     bytes."""
     u, v = variable("u"), variable("v")
-    some, behind = plus(u, 1), plus(u, AT.room + 1)
+    some, behind = plus(u, 1), plus(u, AT.capacity + 1)
     uses = [(0, [], by_length(), True), (behind, [at_most(behind, MOST)], by_length(), True),
-            (some, [at_most(some, AT.room)], by_room(some), False)]
+            (some, [at_most(some, AT.capacity)], by_capacity(some), False)]
     positions = [(v, [minus(q, plus(v, 1))], False), (plus(v, q), [at_most(plus(v, q), MOST)], True)]
     for (used, of_use, chunks, is_use), (position, of_position, is_position) in itertools.product(uses, positions):
         for number, (count, total, facts) in enumerate(counted(used)) if is_use or is_position else ():
@@ -187,14 +187,14 @@ def refuse(vm, record):
         with given(*record.facts, *facts):
             it, before = stream_of(vm, record, length)
             answered(it.update(0, length), NOT_A_STREAM)
-            expect_kept("the record", it.record, before)
+            expect_unchanged("the record", it.record, before)
     for hash_name, fields, facts in digests_of(record):
         with given(*record.facts, *facts):
             it, before = stream_of(vm, record, 0, *fields)
             out = Memory("the value", calls.BYTES[hash_name])
             answered(it.digest(out, hash_name), NOT_A_STREAM)
-            expect_kept("the value", out, {})
-            expect_kept("the record", it.record, before)
+            expect_unchanged("the value", out, {})
+            expect_unchanged("the record", it.record, before)
 
 
 def digests_of(record):
@@ -226,15 +226,15 @@ def is_valid(hash_name, point, initial):
     if hash_name in PLAIN:
         at = calls.RECORDS[f"xxh{hash_name}"]
         total, used = point[at.total], point[at.marked]
-        if used >= at.room or total < MOST and total % at.room != used:
+        if used >= at.capacity or total < MOST and total % at.capacity != used:
             return False
-        return total >= at.room or [point[place] for place in at.accumulators] == initial
+        return total >= at.capacity or [point[place] for place in at.accumulators] == initial
     count, used, total, position = (point[at] for at in (AT.count, AT.buffer_usage, AT.total_bytes, AT.current_stripe))
     if total != min(64 * count + used, MOST):
         return False
     if count:
-        return position < point["q"] and 0 < used <= AT.room
-    return position == 0 and used <= AT.room and [point[AT.accumulator + 8 * k] for k in range(LANES)] == initial
+        return position < point["q"] and 0 < used <= AT.capacity
+    return position == 0 and used <= AT.capacity and [point[AT.accumulator + 8 * k] for k in range(LANES)] == initial
 
 
 def near(rng, *numbers):
@@ -252,11 +252,11 @@ def points(hash_name, initial, count):
             wrong[k] = near(rng, 0, initial[k]) % (1 << 8 * calls.BYTES[hash_name])
         if hash_name in PLAIN:
             at = calls.RECORDS[f"xxh{hash_name}"]
-            used = near(rng, 0, 5, at.room)
-            point |= {at.total: near(rng, 0, used, used + 3 * at.room, at.room, MOST), at.marked: used, at.seed: SEED}
+            used = near(rng, 0, 5, at.capacity)
+            point |= {at.total: near(rng, 0, used, used + 3 * at.capacity, at.capacity, MOST), at.marked: used, at.seed: SEED}
             point |= dict(zip(at.accumulators, wrong))
         else:
-            stripes, used = rng.choice((0, near(rng, 5, ROUND, 9 * ROUND))), near(rng, 0, 1, 200, AT.room, AT.room)
+            stripes, used = rng.choice((0, near(rng, 5, ROUND, 9 * ROUND))), near(rng, 0, 1, 200, AT.capacity, AT.capacity)
             total = min(64 * stripes + used, MOST)
             point |= {AT.count: stripes, AT.buffer_usage: used,
                       AT.total_bytes: rng.choice((total, near(rng, 0, total, MOST))),

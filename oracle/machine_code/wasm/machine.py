@@ -5,8 +5,8 @@ Memory consists of objects: the stack and the module's constants at concrete add
 unknown addresses (Address). Each access must be provably inside one object."""
 import operator
 
-from symbolic_terms import Memory, Node, Unsupported, is_inside, is_natural, is_same_number, minus, plus
-from symbolic_terms.machine import copy
+from oracle.symbolic_terms import Memory, Node, Unsupported, is_inside, is_natural, is_same_number, minus, plus
+from oracle.symbolic_terms.machine import copy
 
 from ..values import Names
 from .semantics import PURE

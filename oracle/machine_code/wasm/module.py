@@ -96,15 +96,15 @@ class Module:
         if reader.take(8) != b"\0asm\1\0\0\0":
             raise Malformed("no module of version 1")
         while reader.at < reader.end:
-            kind, size = reader.byte(), reader.unsigned()
+            section_id, size = reader.byte(), reader.unsigned()
             part = Reader(whole, reader.at, reader.at + len(reader.take(size)))
-            place, read = self.sections().get(kind, (0, None))
+            place, read = self.sections().get(section_id, (0, None))
             if place <= order:
-                raise Malformed(f"section {kind}, where none is expected")
+                raise Malformed(f"section {section_id}, where none is expected")
             order = place
             read(part)
             if part.at != part.end:
-                raise Malformed(f"section {kind} has another length")
+                raise Malformed(f"section {section_id} has another length")
         if len(self.functions) != len(self.signatures):
             raise Malformed("functions without a body")
 
@@ -153,8 +153,8 @@ class Module:
         if len(self.exports) != len(exports):
             raise Malformed("an export that is there twice")
         count = {FUNCTION: len(self.signatures), MEMORY: int(self.pages is not None), GLOBAL: len(self.globals)}
-        for name, (kind, index) in exports:
-            if index >= count.get(kind, 0):
+        for name, (export_type, index) in exports:
+            if index >= count.get(export_type, 0):
                 raise Malformed(f"the export {name} of nothing")
 
     def read_count_of_segments(self, part):
@@ -235,8 +235,8 @@ class Module:
 
     def exported(self, name):
         """Returns an exported function by its name."""
-        kind, index = self.exports[name]
-        if kind != FUNCTION:
+        export_type, index = self.exports[name]
+        if export_type != FUNCTION:
             raise Malformed(f"{name} is no function")
         return self.functions[index]
 

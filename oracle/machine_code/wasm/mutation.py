@@ -13,9 +13,9 @@ import functools
 import itertools
 import random
 
-from reasons import CRASH, UNNOTICED, WRONG_RULE, Called, is_fault
-from symbolic_terms import REFUSALS, Request, WrongRule, comparison, nodes
-from symbolic_terms.mutation import differs
+from oracle.reasons import CRASH, UNNOTICED, WRONG_RULE, Called, is_fault
+from oracle.symbolic_terms import REFUSALS, Request, WrongRule, comparison, nodes
+from oracle.symbolic_terms.mutation import differs
 
 from ..xxh3_updates import TAKE_BLOCKS
 from . import calls, every_length, executions, invalid_records, refusals
@@ -30,7 +30,7 @@ LENGTHS = [*range(10), *range(14, 36, 3), 63, 64, 65, 96, 97, 120, 128, 129, 145
 EDGES = [16, 17, 8, 9, 3, 4, 5, 128, 129, 240, 241, 31, 32, 33, 64, 65, 96, 97, 256, 257, 0, 1, 512, 513, 576, 1024,
          1025, 1088, 1089]
 EACH_STREAM = 9
-KEPT = 2
+MOST_REQUESTS = 2
 MORE_CUTS = 1, 31, 500, 33, 65, 256, 257
 MORE_PIECES = [(70, 30), (1500, 300, 1000), (1100, 600, 900), (1100, 500, 1090), (520, 500), (513, 512), (514, 500),
                (700, 505), (970, 500, 520)]
@@ -66,7 +66,7 @@ CRASHES = AttributeError, IndexError, KeyError, TypeError, ValueError, Recursion
 
 class Taken:
     """A case of functions that take the stripes of long chunks (xxh3_streams.py), in the form of a request."""
-    hash_name, kind, secret_length, what = "3-64", "seed", None, "stripes of long pieces"
+    hash_name, variant, secret_length, what = "3-64", "seed", None, "stripes of long pieces"
 
     def __init__(self, case):
         self.case = case
@@ -96,13 +96,13 @@ def long_pieces(vm, is_all):
 
 def asked(is_all=True):
     """Yields the requests that cover the modules: (request, function that runs it)."""
-    for kind in comparison.kinds(SECRETS if is_all else SECRETS[:1]):
+    for algorithm in comparison.algorithms(SECRETS if is_all else SECRETS[:1]):
         for n in LENGTHS[::1 if is_all else 3]:
-            yield Request(*kind[:2], n, kind[2]), calls.one_shot
+            yield Request(*algorithm[:2], n, algorithm[2]), calls.one_shot
         for n in STREAM_LENGTHS if is_all else STREAM_LENGTHS[::3]:
             for cuts in STREAM_CUTS[::1 if is_all else 2]:
                 if all(cut <= n for cut in cuts):
-                    yield Request(*kind[:2], n, kind[2], cuts=cuts), calls.stream
+                    yield Request(*algorithm[:2], n, algorithm[2], cuts=cuts), calls.stream
     yield from refused()
 
 
@@ -114,32 +114,32 @@ def refused():
     yield from ((request, refusals.keep_counters) for request in refusals.of_counters())
 
 
-def kind_of(query):
+def category_of(query):
     request, answer = query
-    return request.hash_name, request.kind, request.secret_length, answer, getattr(request, "what", None)
+    return request.hash_name, request.variant, request.secret_length, answer, getattr(request, "what", None)
 
 
 class Covered:
-    """Maps (function, index in its code) to KEPT random requests per kind of call that run the instruction."""
+    """Maps (function, index in its code) to MOST_REQUESTS random requests per kind of call that run the instruction."""
 
     def __init__(self, vm, is_all):
-        by_kind, seen, draw = collections.defaultdict(dict), collections.Counter(), random.Random(5)
+        by_category, seen, rng = collections.defaultdict(dict), collections.Counter(), random.Random(5)
         texts = Texts()
         of_records = ((record, invalid_records.refuse) for record in invalid_records.records(vm))
         for query in (*asked(is_all), *of_records, *long_pieces(vm, is_all)):
-            texts.make_room()
-            vm.used, kind = set(), kind_of(query)
+            texts.limit_memory()
+            vm.used, category = set(), category_of(query)
             query[1](vm, query[0])
             for place in sorted(vm.used):
-                seen[place, kind] += 1
-                for number in range(KEPT):
-                    if draw.random() * seen[place, kind] < 1:
-                        by_kind[place][kind, number] = query
+                seen[place, category] += 1
+                for number in range(MOST_REQUESTS):
+                    if rng.random() * seen[place, category] < 1:
+                        by_category[place][category, number] = query
         vm.used = None
-        self.by_place = {place: draw.sample([*found.values()], len(found)) for place, found in sorted(by_kind.items())}
+        self.by_place = {place: rng.sample([*found.values()], len(found)) for place, found in sorted(by_category.items())}
         self.places = sorted(self.by_place)
 
-    def told(self, vm):
+    def summary(self, vm):
         total = sum(len(function.code) for function in vm.module.functions)
         return f"{len(self.places)} of {total} instructions are run"
 
@@ -152,17 +152,17 @@ def same_types(opcode):
             and x.prefix == opcode.prefix and (x.code < 128) == (opcode.code < 128)]
 
 
-def change_of(x, whole, draw):
+def change_of(x, whole, rng):
     """Returns (description, changed bytes) of a random change of an instruction."""
     out, others = bytearray(whole), same_types(x.opcode)
-    if others and draw.random() < 0.5:
-        other = draw.choice(others)
+    if others and rng.random() < 0.5:
+        other = rng.choice(others)
         place = x.at + (x.opcode.prefix is not None)
         out[place] = other.code & 127 | (out[place] & 128)
         if other.prefix is not None and other.code > 127:
             out[place + 1] = other.code >> 7
         return f"-> {other.name}", bytes(out)
-    place, bit = draw.choice(places_of(x)), draw.randrange(8)
+    place, bit = rng.choice(places_of(x)), rng.randrange(8)
     out[place] ^= 1 << bit
     return f"bit {bit} of byte {place - x.at}", bytes(out)
 
@@ -197,7 +197,7 @@ def outcome(vm, texts, queries):
     """Returns the outcome of some requests on a changed module."""
     found = UNNOTICED
     for request, answer in queries:
-        texts.make_room()
+        texts.limit_memory()
         vm.has_asked = False
         what = of_request(vm, texts, request, answer)
         if what == UNNOTICED and vm.has_asked:
@@ -209,7 +209,7 @@ def outcome(vm, texts, queries):
 
 
 def of_request(vm, texts, request, answer):
-    said = None if answer in REFUSING else texts.value(request)
+    expected = None if answer in REFUSING else texts.value(request)
     try:
         ours = answer(vm, request)
     except REFUSALS:
@@ -218,33 +218,33 @@ def of_request(vm, texts, request, answer):
         return f"{WRONG_RULE}: {error}"
     except CRASHES as error:
         return f"{CRASH}: {error!r}"
-    if nodes.is_same(said, ours):
+    if nodes.is_same(expected, ours):
         return UNNOTICED
-    return NOTICED if differs(request, said, ours) else REFUSED
+    return NOTICED if differs(request, expected, ours) else REFUSED
 
 
 def more(queries):
     """Yields requests of the same kinds with EDGES, for one one-shot and one stream with many short lengths, for one
     stream of each family with more chunks."""
-    found = dict.fromkeys(kind_of(query)[:4] for query in queries)
+    found = dict.fromkeys(category_of(query)[:4] for query in queries)
     # Instructions that only refused calls run are tested by streams too.
-    kinds = [kind for kind in found if kind[3] not in REFUSING] or [(*kind[:3], calls.stream) for kind in found][:1]
-    for kind in kinds:
-        yield from of_lengths(kind, EDGES)
+    categories = [category for category in found if category[3] not in REFUSING] or [(*category[:3], calls.stream) for category in found][:1]
+    for category in categories:
+        yield from of_lengths(category, EDGES)
     for answer, each in ((calls.one_shot, 1), (calls.stream, EACH_STREAM)):
-        for kind in [kind for kind in kinds if kind[3] is answer][:1]:
-            yield from of_lengths(kind, range(0, 301, each))
-    for hash_name, way, secret, answer in kinds:
+        for category in [category for category in categories if category[3] is answer][:1]:
+            yield from of_lengths(category, range(0, 301, each))
+    for hash_name, way, secret, answer in categories:
         for n, *cuts in MORE_PIECES if answer is calls.stream else ():
             yield Request(hash_name, way, n, secret, cuts=cuts), answer
-    streams = {calls.family(kind[0]): kind for kind in kinds if kind[3] is calls.stream}
+    streams = {calls.family(category[0]): category for category in categories if category[3] is calls.stream}
     for family, (hash_name, way, secret, answer) in streams.items():
         for n, *cuts in [*(FILLED if family == "xxh3" else PLAIN_FILLED), *SHORT_PIECES]:
             yield Request(hash_name, way, n, secret, cuts=cuts), answer
 
 
-def of_lengths(kind, lengths):
-    hash_name, way, secret, answer = kind
+def of_lengths(category, lengths):
+    hash_name, way, secret, answer = category
     for number, n in enumerate(lengths):
         cut = MORE_CUTS[number % len(MORE_CUTS)]
         cuts = [min(cut, n)] if answer is calls.stream else None
@@ -266,20 +266,20 @@ def of_many_bytes(vm):
     return UNNOTICED
 
 
-def drawn(vm, covered, count, seed):
+def random_changes(vm, covered, count, seed):
     """Yields `count` valid random changes of executed instructions, and the invalid ones between: (text, machine or
     None if invalid, requests). The changes don't depend on the requests."""
     places, valid = [(f.index, pc) for f in vm.module.functions for pc in range(len(f.code))], 0
     for number in itertools.count():
-        draw = random.Random(f"{seed} {number}")
-        place = draw.choice(places)
+        rng = random.Random(f"{seed} {number}")
+        place = rng.choice(places)
         if valid == count:
             return
         if place not in covered.by_place:
             continue
         function = vm.module.functions[place[0]]
         x = function.code[place[1]]
-        what, whole = change_of(x, vm.module.whole, draw)
+        what, whole = change_of(x, vm.module.whole, rng)
         try:
             changed = with_change(vm, function, whole)
         except Malformed:
@@ -300,12 +300,12 @@ def is_same_amount(function, other, pc):
     return name in ("shl", "shr_u", "rotl", "rotr") and (x.given - y.given) % (64 if "64" in word else 32) == 0
 
 
-def drawn_by_hand(vm, covered):
-    """Yields the changes by hand, each at some executed places, in the form of `drawn`."""
-    draw = random.Random(7)
+def changes_by_hand(vm, covered):
+    """Yields the changes by hand, each at some executed places, in the form of `random_changes`."""
+    rng = random.Random(7)
     for what, *where, byte, bits in BY_HAND:
         places = [place for place in covered.places if is_there(vm.module.functions[place[0]].code, place[1], *where)]
-        for place in draw.sample(places, min(EACH_BY_HAND, len(places))):
+        for place in rng.sample(places, min(EACH_BY_HAND, len(places))):
             function = vm.module.functions[place[0]]
             x, whole = function.code[place[1]], bytearray(vm.module.whole)
             whole[(x.at if byte >= 0 else x.end) + byte] ^= bits
@@ -322,12 +322,12 @@ def shown(given):
     return given.hex() if isinstance(given, bytes) else "" if given is None else str(given)
 
 
-def tell(machines, name, count, seed, is_all):
+def report(machines, name, count, seed, is_all):
     """Tests `count` random changes of a module and those by hand. Returns the counts of outcomes, and the failures."""
     vm = machines[name]
     covered, texts, called = Covered(vm, is_all), Texts(), Called()
     counts, bad = collections.Counter(), []
-    for number, (text, changed, queries) in enumerate((*drawn_by_hand(vm, covered), *drawn(vm, covered, count, seed))):
+    for number, (text, changed, queries) in enumerate((*changes_by_hand(vm, covered), *random_changes(vm, covered, count, seed))):
         what = NOT_VALID if changed is None else outcome(changed, texts, queries)
         if what == UNNOTICED:
             what = outcome(changed, texts, more(queries))
@@ -341,5 +341,5 @@ def tell(machines, name, count, seed, is_all):
         counts[what.partition(":")[0]] += 1
         if is_fault(what, False):
             bad.append(f"{what}: {text}")
-    told = ", ".join(f"{n} {what}" for what, n in counts.most_common())
-    return f"{covered.told(vm)}; {told}; {called.told()}", bad + called.faults()
+    message = ", ".join(f"{n} {what}" for what, n in counts.most_common())
+    return f"{covered.summary(vm)}; {message}; {called.summary()}", bad + called.faults()

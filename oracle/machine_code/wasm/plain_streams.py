@@ -6,7 +6,7 @@ after a stripes, the number r of buffered bytes, and these bytes. The rest of it
 the record's numbers are consistent, so a record without stripes, whose accumulators are known, is a separate case."""
 import functools
 
-from symbolic_terms import at_most, minus, plus, times, variable
+from oracle.symbolic_terms import at_most, minus, plus, times, variable
 
 from .. import layouts
 from ..any_updates import AnyUpdates
@@ -20,7 +20,7 @@ class PlainStreams(AnyUpdates):
 
     def __init__(self, vm, hash_name):
         super().__init__(vm, hash_name)
-        self.told, self.cases = [], 0
+        self.messages, self.cases = [], 0
 
     def call(self, what, state, *rest, family=None):
         self.cpu.seed, self.cpu.has_asked, self.cases = None, False, self.cases + 1

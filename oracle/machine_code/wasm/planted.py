@@ -1,7 +1,7 @@
 """Planted faults in modules: instructions inserted at the start of an export, each of which must be refused."""
 import functools
 
-from symbolic_terms import REFUSALS, Poly, Request, is_same, is_same_number, variable
+from oracle.symbolic_terms import REFUSALS, Poly, Request, is_same, is_same_number, variable
 
 from .. import coverage, layouts
 from ..xxh3_updates import TAKE, TAKE_MANY
@@ -90,7 +90,7 @@ def refusal(vm):
     return None
 
 
-def tell(machines):
+def report(machines):
     """Tests each module with each planted fault. Returns faults that pass, and unchanged modules that fail."""
     bad = []
     for name, vm in machines.items():
@@ -104,7 +104,7 @@ def tell(machines):
 
 # ---- streams of XXH3 of any updates
 
-FULL = "; ".join([f"local.get 0; i32.wrap_i64; i64.load {layouts.CORE.buffer_usage}; i64.const {layouts.CORE.room}", "i64.eq; if",
+FULL = "; ".join([f"local.get 0; i32.wrap_i64; i64.load {layouts.CORE.buffer_usage}; i64.const {layouts.CORE.capacity}", "i64.eq; if",
                   "local.get 0; i32.wrap_i64; i64.const 1; i64.store 0", "end"])
 
 
@@ -125,7 +125,7 @@ def with_other_byte(number, then, byte, bits):
 
 def long_update(proof):
     """Proves an update by a long chunk, with stripes in the buffer."""
-    return functools.partial(proof.update, *next(map(proof.with_room, proof.pieces(
+    return functools.partial(proof.update, *next(map(proof.with_limit, proof.pieces(
         "many", proof.starts(False), [(64, [])]))))
 
 
@@ -166,14 +166,14 @@ def of_streams(vm, ask):
     return ""
 
 
-def tell_of_streams(machines):
+def report_of_streams(machines):
     """Tests each module with each fault of streams: it must pass CUT, and be refused by its proof."""
     bad = []
-    for what, make, ask, words in OF_STREAMS:
+    for what, make, ask, message in OF_STREAMS:
         wrong = {name: with_change(vm, *make(vm, Takers(vm))) for name, vm in machines.items()}
         bad += [f"with {what}, elsewhere: {line}" for line in compare(wrong, CUT, calls.stream)[1]]
         bad += [f"{name} with {what}: {why or 'it passes'}" for name, vm in wrong.items()
-                if words not in (why := of_streams(vm, ask))]
+                if message not in (why := of_streams(vm, ask))]
     return f"{len(OF_STREAMS) * len(machines)} planted modules, each refused", bad
 
 

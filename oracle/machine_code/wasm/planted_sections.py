@@ -12,34 +12,34 @@ def sections_of(whole):
     """Returns (type, content) of each section."""
     reader, out = Reader(whole, 8), []
     while reader.at < reader.end:
-        kind = reader.byte()
-        out.append((kind, reader.take(reader.unsigned())))
+        section_id = reader.byte()
+        out.append((section_id, reader.take(reader.unsigned())))
     return out
 
 
 def joined(whole, sections):
-    return whole[:8] + b"".join(section(kind, content) for kind, content in sections)
+    return whole[:8] + b"".join(section(section_id, content) for section_id, content in sections)
 
 
-def segment(place, content, kind=b"\0"):
-    return kind + (b"\x41" + signed(place) + b"\x0b" if kind == b"\0" else b"") + vector([bytes([x]) for x in content])
+def segment(place, content, flag=b"\0"):
+    return flag + (b"\x41" + signed(place) + b"\x0b" if flag == b"\0" else b"") + vector([bytes([x]) for x in content])
 
 
 def with_segments(make):
     """Returns a change that replaces the segments by those that `make` makes of the one segment's (address, bytes)."""
     def change(module, sections):
-        return [(kind, vector(make(*module.segments[0])) if kind == DATA else content) for kind, content in sections
-                if kind != DATA + 1]      # without the number of segments
+        return [(section_id, vector(make(*module.segments[0])) if section_id == DATA else content) for section_id, content in sections
+                if section_id != DATA + 1]      # without the number of segments
     return change
 
 
-def put(kind, content, behind):
+def put(section_id, content, behind):
     """Returns a change that inserts a section after the section of type `behind`."""
-    return lambda module, sections: [x for one in sections for x in ([one, (kind, content)] if one[0] == behind else [one])]
+    return lambda module, sections: [x for one in sections for x in ([one, (section_id, content)] if one[0] == behind else [one])]
 
 
-def in_place(kind, make):
-    return lambda module, sections: [(x, make(content) if x == kind else content) for x, content in sections]
+def in_place(section_id, make):
+    return lambda module, sections: [(x, make(content) if x == section_id else content) for x, content in sections]
 
 
 # ---- exports of another type
@@ -60,17 +60,17 @@ def of_type(name, signature):
     """Returns a change after which the export is a new function of another type, which only traps."""
     def change(module, sections):
         added = {TYPES: type_of(*signature), SIGNATURES: unsigned(len(module.types)), CODE: FUNCTION_BODY}
-        out = [(kind, more(content, added[kind]) if kind in added else content) for kind, content in sections]
-        return [(kind, exported(module, name, FUNCTION, len(module.signatures)) if kind == EXPORTS else content) for kind, content in out]
+        out = [(section_id, more(content, added[section_id]) if section_id in added else content) for section_id, content in sections]
+        return [(section_id, exported(module, name, FUNCTION, len(module.signatures)) if section_id == EXPORTS else content) for section_id, content in out]
     return change
 
 
 FUNCTION_BODY = vector([bytes([x]) for x in b"\0" + assembled("unreachable") + END])
 
 
-def exported(module, other, kind, index):
+def exported(module, other, export_type, index):
     """Returns the section of exports, one of which is another thing."""
-    return vector([vector([bytes([x]) for x in name.encode()]) + bytes([kind if name == other else old[0]]) +
+    return vector([vector([bytes([x]) for x in name.encode()]) + bytes([export_type if name == other else old[0]]) +
                    unsigned(index if name == other else old[1]) for name, old in module.exports.items()])
 
 
@@ -80,8 +80,8 @@ def with_heap_base(make):
         base = module.globals[module.exports["__heap_base"][1]].value
         code, flag, opcode, value = make(base)
         item = bytes([code, flag, opcode]) + signed(value) + END
-        return [(kind, more(content, item) if kind == GLOBALS else exported(
-            module, "__heap_base", GLOBAL, len(module.globals)) if kind == EXPORTS else content) for kind, content in sections]
+        return [(section_id, more(content, item) if section_id == GLOBALS else exported(
+            module, "__heap_base", GLOBAL, len(module.globals)) if section_id == EXPORTS else content) for section_id, content in sections]
     return change
 
 
@@ -134,7 +134,7 @@ def refusal(whole):
     return next(iter(tasks.of_memory(machine, machine.module.exports)), None)
 
 
-def tell(machines, each=1):
+def report(machines, each=1):
     """Tests each module with each planted fault, or with every `each`-th type of an export. Returns faults that pass, and
     unchanged modules that fail. The functions of a module with a fault only trap, so that reading it is short."""
     bad = []

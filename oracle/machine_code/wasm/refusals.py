@@ -2,10 +2,10 @@
 that a counter saturates at 2^64 - 1."""
 import itertools
 
-from symbolic_terms import Memory, Request, Unsupported, at_most, given, plus, variable
+from oracle.symbolic_terms import Memory, Request, Unsupported, at_most, given, plus, variable
 
 from . import calls
-from .calls import SECRET_TOO_SHORT, Stream, answered, expect_kept
+from .calls import SECRET_TOO_SHORT, Stream, answered, expect_unchanged
 from .comparing import compare
 from .every_length import LONGEST
 
@@ -63,7 +63,7 @@ def streams_with_short_secrets(machines):
 def refuse_short_secret(vm, request, taken=300):
     """Tests that an update and a digest of a stream of `taken` bytes refuse a secret that is too short, also with an
     invalid record, since the secret is tested first."""
-    it = started(vm, Request(request.hash_name, request.kind, taken, LEAST_SECRET), taken)
+    it = started(vm, Request(request.hash_name, request.variant, taken, LEAST_SECRET), taken)
     it.request, it.secret = request, calls.of_secret(request)
     expect_refused(it, SECRET_TOO_SHORT)
     it.record.store(COUNTERS[request.hash_name][0], 8, taken + 1)
@@ -95,8 +95,8 @@ def expect_refused(it, code):
     for name in names_of(it):
         out = Memory("the value", calls.BYTES[name])
         answered(it.digest(out, name), code)
-        expect_kept("the value", out, {})
-    expect_kept("the record", it.record, before)
+        expect_unchanged("the value", out, {})
+    expect_unchanged("the record", it.record, before)
 
 
 # ---- counters

@@ -1,11 +1,11 @@
 """Semantics of the instructions that only pop values and push one: PURE maps each to a function of its immediates and
 these values."""
-from symbolic_terms import ones
+from oracle.symbolic_terms import ones
 
 from .values import HALF, WORD, Address, binary, compare, condition, decided, high, low, side_by_side
 
 
-def of_words(operation, width):
+def on_scalars(operation, width):
     return lambda given, a, b: binary(operation, width, a, b)
 
 
@@ -23,16 +23,16 @@ def halves_of(lane):
     return low(lane, HALF), high(lane, HALF)
 
 
-def of_halves(words):
+def of_halves(parts):
     """Returns a vector of four 32-bit words."""
-    return tuple(side_by_side([(words[k], HALF), (words[k + 1], HALF)]) for k in (0, 2))
+    return tuple(side_by_side([(parts[k], HALF), (parts[k + 1], HALF)]) for k in (0, 2))
 
 
 def with_half(k, a, x):
     """Returns a vector with another word k."""
-    words = [word for lane in a for word in halves_of(lane)]
-    words[k] = x
-    return of_halves(words)
+    parts = [word for lane in a for word in halves_of(lane)]
+    parts[k] = x
+    return of_halves(parts)
 
 
 def products(lane):
@@ -58,8 +58,8 @@ def bytes_side_by_side(picked):
 
 
 PURE = {
-    **{f"i32.{name}": of_words(name, HALF) for name in "add sub mul rem_u and or xor shl shr_u rotl rotr".split()},
-    **{f"i64.{name}": of_words(name, WORD) for name in "add sub mul rem_u and or xor shl shr_u rotl".split()},
+    **{f"i32.{name}": on_scalars(name, HALF) for name in "add sub mul rem_u and or xor shl shr_u rotl rotr".split()},
+    **{f"i64.{name}": on_scalars(name, WORD) for name in "add sub mul rem_u and or xor shl shr_u rotl".split()},
     **{f"i64.{name}": of_test(name, WORD) for name in "eq ne lt_s lt_u gt_u le_s le_u ge_s ge_u".split()},
     **{f"i32.{name}": of_test(name, HALF) for name in ("ne", "ge_u")},
     **dict.fromkeys(("i32.const", "i64.const"), lambda given: given),

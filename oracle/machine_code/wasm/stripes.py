@@ -4,7 +4,7 @@ assembly source.
 The functions have no names: the call graph identifies them. They get the names of an assembly source."""
 import functools
 
-from symbolic_terms import RUNS, NotShown
+from oracle.symbolic_terms import RUNS, NotShown
 
 from .. import values as of_text
 from ..stripes import DEEP
@@ -21,7 +21,7 @@ def called(function):
     return sorted({x.given for x in function.code if x.opcode.name == "call"})
 
 
-def room_of(function):
+def frame_size(function):
     """Returns the bytes of the stack that a function reserves at its start."""
     first = function.code[:len(FRAME)]
     return first[1].given if tuple(x.opcode.name for x in first) == FRAME else 0
@@ -36,7 +36,7 @@ class Takers:
         self.long_pieces, = (functions[k] for k in called(functions[far]) if called(functions[k]))
         many, = called(self.long_pieces)
         one, blocks = sorted((functions[k] for k in called(functions[many])), key=loops_in)
-        end = vm.end_of_stack - room_of(functions[many])
+        end = vm.end_of_stack - frame_size(functions[many])
         self.found = {TAKE_MANY.name: (functions[many], vm.end_of_stack), TAKE.name: (one, end),
                       TAKE_BLOCKS.name: (blocks, end)}
 

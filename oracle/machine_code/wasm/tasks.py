@@ -3,10 +3,10 @@ import functools
 import hashlib
 import os
 
-from symbolic_terms import comparison, cuts
-from symbolic_terms.processes import Task
-from symbolic_terms.comparison import title_of
-from symbolic_terms.tasks import STREAM_SECRETS
+from oracle.symbolic_terms import comparison, cuts
+from oracle.symbolic_terms.processes import Task
+from oracle.symbolic_terms.comparison import title_of
+from oracle.symbolic_terms.tasks import STREAM_SECRETS
 
 from .. import coverage
 from .. import tasks as of_texts
@@ -20,7 +20,7 @@ WEB = os.path.join(os.path.dirname(os.path.abspath(__file__)), "..", "..", "..",
 NAMES = "twox_hash.wasm", "twox_hash_simd.wasm"
 SECRETS, GATE_SECRETS = (136, 137, 143, 144, 192, 256), (136,)
 GATE_EACH, GATE_STREAMS = 16, (33, 300)      # step between the lengths of one-shots, and the lengths of streams
-GATE_KINDS, GATE_CASES = [("32", "seed"), ("64", "seed"), ("3-64", "seed"), ("3-128", "both")], 24
+GATE_ALGORITHMS, GATE_CASES = [("32", "seed"), ("64", "seed"), ("3-64", "seed"), ("3-128", "both")], 24
 # Cases of XXH3's streams: size of a sample, and the number of parts of all.
 XXH3_CASES = {UPDATES: (8, 4), DIGESTS: (37, 2), STRIPES: (2, 2)}
 GATE_CHANGES, CHANGES = 6, 1000      # of a module
@@ -81,14 +81,14 @@ def checksums():
 def choose(given, machines):
     """Returns the tasks. The machines are made once; each task has its own copies, since it runs as a process."""
     out = [*lengths(given.all), *OF_REFUSALS,
-           ("planted sections", functools.partial(planted_sections.tell, each=1 if given.all else GATE_TYPES)),
+           ("planted sections", functools.partial(planted_sections.report, each=1 if given.all else GATE_TYPES)),
            *induction(given.all), *streams_by_induction(given.all), *xxh3_streams_by_induction(given.all), ("the table of instructions beside Node", engine.compare_instructions),
            ("changed modules, which Node too accepts or refuses",
             functools.partial(engine.compare_validity, count=300 if given.all else 5)), *of_changes(given.all)]
     titles = [title for title, _ in out]
     out.insert(0, ("the exports are those of the table, each with its task", functools.partial(exports, titles=titles)))
     out.append(("removed functions are noticed", functools.partial(
-        removed.unnoticed, asked=asked_without_all(), words_of=EXPORTS, each=1 if given.all else GATE_REMOVED)))
+        removed.unnoticed, asked=asked_without_all(), titles_of=EXPORTS, each=1 if given.all else GATE_REMOVED)))
     return [Task(title, functools.partial(ask, machines)) for title, ask in out if given.only in title]
 
 
@@ -102,8 +102,8 @@ def asked_without_all():
 def exports(machines, titles):
     """Checks that each module has exactly the exports of the table, that their tasks exist, and where the caller's
     memory begins."""
-    bad = [f"no task shows {name}" for name, words in EXPORTS.items()
-           if words != ["the exports"] and not any(all(word in title for word in words) for title in titles)]
+    bad = [f"no task shows {name}" for name, title_parts in EXPORTS.items()
+           if title_parts != ["the exports"] and not any(all(word in title for word in title_parts) for title in titles)]
     for module, vm in machines.items():
         found = vm.module.exports
         bad += [f"{module} exports {name}, of which the table says nothing" for name in found.keys() - EXPORTS.keys()]
@@ -116,8 +116,8 @@ def of_memory(vm, found):
     """Checks the types of a module's exports, that __heap_base is just behind the stack and the constants, and that the
     memory has the pages before it, and no limit."""
     module, known = vm.module, signatures()
-    types = {name: (kind, tuple(module.functions[index].signature) if kind == FUNCTION else None)
-             for name, (kind, index) in found.items()}
+    types = {name: (export_type, tuple(module.functions[index].signature) if export_type == FUNCTION else None)
+             for name, (export_type, index) in found.items()}
     bad = [f"the type of {name}" for name, found in types.items()
            if found != {"memory": (MEMORY, None), "__heap_base": (GLOBAL, None)}.get(name, (FUNCTION, known.get(name)))]
     if bad:
@@ -133,11 +133,11 @@ def of_memory(vm, found):
 
 def lengths(is_all):
     each, streamed = 1 if is_all else GATE_EACH, cuts.STREAMED if is_all else GATE_STREAMS
-    for kind in comparison.kinds(SECRETS if is_all else GATE_SECRETS):
-        of_kind = title_of(*kind)
-        yield compared(f"{of_kind}, one-shots of 0 to 300 bytes", kind, one_by_one(each), False)
-        if kind[2] in (None, *STREAM_SECRETS):
-            yield compared(f"{of_kind}, streams of 0 to 1,088 bytes", kind, streamed, True)
+    for algorithm in comparison.algorithms(SECRETS if is_all else GATE_SECRETS):
+        title = title_of(*algorithm)
+        yield compared(f"{title}, one-shots of 0 to 300 bytes", algorithm, one_by_one(each), False)
+        if algorithm[2] in (None, *STREAM_SECRETS):
+            yield compared(f"{title}, streams of 0 to 1,088 bytes", algorithm, streamed, True)
 
 
 def one_by_one(each):
@@ -146,15 +146,15 @@ def one_by_one(each):
     return sorted({*range(0, 301, each), *range(33), *edges, 300})
 
 
-def compared(title, kind, asked, is_stream):
+def compared(title, algorithm, asked, is_stream):
     def ask(machines):
-        equal, bad = comparing.compare(machines, comparing.requests(kind, asked, is_stream),
+        equal, bad = comparing.compare(machines, comparing.requests(algorithm, asked, is_stream),
                                        calls.stream if is_stream else calls.one_shot)
         return f"{len(asked)} lengths, {equal} requests, each one term", bad
     return title, ask
 
 
-OF_REFUSALS = [("planted modules", planted.tell), ("planted modules, streams of XXH3", planted.tell_of_streams),
+OF_REFUSALS = [("planted modules", planted.report), ("planted modules, streams of XXH3", planted.report_of_streams),
                ("secrets of 0 to 135 bytes, one-shots", refusals.one_shots_with_short_secrets),
                ("secrets of 0 to 135 bytes, streams", refusals.streams_with_short_secrets),
                ("records that are no stream's", invalid_records.refuse_all),
@@ -166,7 +166,7 @@ OF_REFUSALS = [("planted modules", planted.tell), ("planted modules, streams of 
 def induction(is_all):
     yield "the cases of a length are all of them, each once", cases_are_all
     for module in NAMES:
-        for hash_name, way in every_length.KINDS if is_all else GATE_KINDS:
+        for hash_name, way in every_length.ALGORITHMS if is_all else GATE_ALGORITHMS:
             is_whole = is_all or calls.is_plain(hash_name)
             first = every_length.shortest(hash_name, way)
             title = f"{title_of(hash_name, way, None)}, {module}: every length from {first} on"
@@ -184,7 +184,7 @@ def streams_by_induction(is_all):
 
 def streams_shown(machines, module, width, each):
     proof = plain_streams.show(machines[module], width, each)
-    return f"{proof.cases} cases; {proof.told[-1]}", []
+    return f"{proof.cases} cases; {proof.messages[-1]}", []
 
 
 def xxh3_streams_by_induction(is_all):
@@ -194,8 +194,8 @@ def xxh3_streams_by_induction(is_all):
         for what, (some, parts) in XXH3_CASES.items():
             title = f"XXH3, {module}: streams, {what}, to 2^64 - 1 bytes"
             for part in range(parts) if is_all else [None]:
-                words = ", a sample" if part is None else f", part {part + 1} of {parts}"
-                yield (title + words, functools.partial(
+                portion = ", a sample" if part is None else f", part {part + 1} of {parts}"
+                yield (title + portion, functools.partial(
                     xxh3_streams_shown, module=module, what=what, first=part or 0, some=None if is_all else some))
 
 
@@ -224,7 +224,7 @@ def cases_are_all(machines):
 
 def shown(machines, module, hash_name, way, each):
     proof = every_length.show(machines[module], hash_name, way, each)
-    return f"{proof.cases} cases; {proof.told[0]}", []
+    return f"{proof.cases} cases; {proof.messages[0]}", []
 
 
 # ---- changes
@@ -236,4 +236,4 @@ def of_changes(is_all):
             title = f"changes in the bytes of {module}" + (f", part {part + 1} of {parts}" if is_all else "")
             count = CHANGES // parts if is_all else GATE_CHANGES
             yield title, functools.partial(
-                mutation.tell, name=module, count=count, seed=part if is_all else PARTS, is_all=is_all)
+                mutation.report, name=module, count=count, seed=part if is_all else PARTS, is_all=is_all)

@@ -14,7 +14,7 @@ class Invalid(Malformed):
     """Raised for a module that the specification rejects."""
 
 
-def want(holds, why):
+def require(holds, why):
     if not holds:
         raise Invalid(why)
 
@@ -31,14 +31,14 @@ class Validator:
     def check(self):
         self.enter("function", (), self.function.signature.leaves, -1)
         for pc, x in enumerate(self.code):
-            want(self.blocks, "code behind the function's end")
+            require(self.blocks, "code behind the function's end")
             if x.opcode.takes is not None:
                 self.check_given(x)
                 self.pop_all(x.opcode.takes)
                 self.types += x.opcode.leaves
             else:
                 getattr(self, "check_" + x.opcode.name.replace(".", "_"))(x.given, pc)
-        want(not self.blocks, "a function without an end")
+        require(not self.blocks, "a function without an end")
         return self.branches
 
     # ---- the stack of types, and the blocks
@@ -47,9 +47,9 @@ class Validator:
         height = self.blocks[-1].height
         if len(self.types) == height and self.is_unreachable[-1]:
             return expected
-        want(len(self.types) > height, "too few values")
+        require(len(self.types) > height, "too few values")
         found = self.types.pop()
-        want(UNKNOWN in (found, expected) or found == expected, f"a value of {found} bits, where {expected} are taken")
+        require(UNKNOWN in (found, expected) or found == expected, f"a value of {found} bits, where {expected} are taken")
         return expected if found is UNKNOWN else found
 
     def pop_all(self, expected):
@@ -64,7 +64,7 @@ class Validator:
     def leave(self):
         block = self.blocks[-1]
         self.pop_all(block.leaves)
-        want(len(self.types) == block.height, "too many values at a block's end")
+        require(len(self.types) == block.height, "too many values at a block's end")
         self.is_unreachable.pop()
         return self.blocks.pop()
 
@@ -74,7 +74,7 @@ class Validator:
         self.is_unreachable[-1] = True
 
     def block(self, label):
-        want(label < len(self.blocks), f"a branch out of {label} blocks")
+        require(label < len(self.blocks), f"a branch out of {label} blocks")
         return self.blocks[-1 - label]
 
     def taken_to(self, label):
@@ -93,14 +93,14 @@ class Validator:
         """Checks the immediates of an instruction whose types are in the table."""
         behind = x.opcode.behind
         if behind.startswith("bytes"):
-            want(self.module.pages is not None, "no memory")
-            want(x.given[0] < 5 and 1 << x.given[0] <= int(behind[len("bytes"):]), "an alignment")
+            require(self.module.pages is not None, "no memory")
+            require(x.given[0] < 5 and 1 << x.given[0] <= int(behind[len("bytes"):]), "an alignment")
         elif behind.startswith("lane") and behind != "lanes":
-            want(x.given < int(behind[len("lane"):]), "a lane that is not there")
+            require(x.given < int(behind[len("lane"):]), "a lane that is not there")
         elif behind == "lanes":
-            want(all(k < 32 for k in x.given), "a lane that is not there")
+            require(all(k < 32 for k in x.given), "a lane that is not there")
         elif behind.startswith("zeros"):
-            want(self.module.pages is not None and not any(x.given), "another memory")
+            require(self.module.pages is not None and not any(x.given), "another memory")
 
     def check_unreachable(self, given, pc):
         self.cut_off()
@@ -114,7 +114,7 @@ class Validator:
     def check_if(self, given, pc):
         """Checks an `if`. The table has no `else`: if the condition is 0, the block's parameters are its results."""
         self.pop(BOOLEAN)
-        want(given.takes == given.leaves, "an if that leaves other values than it takes")
+        require(given.takes == given.leaves, "an if that leaves other values than it takes")
         self.check_block(given, pc)
         self.branches[pc] = self.branch(0)
 
@@ -134,7 +134,7 @@ class Validator:
 
     def check_br_table(self, labels, pc):
         self.pop(BOOLEAN)
-        want(len({self.taken_to(label) for label in labels}) == 1, "a table of branches that take other values")
+        require(len({self.taken_to(label) for label in labels}) == 1, "a table of branches that take other values")
         self.pop_all(self.taken_to(labels[0]))
         self.branches[pc] = [self.branch(label) for label in labels]
         self.cut_off()
@@ -143,7 +143,7 @@ class Validator:
         self.check_br(len(self.blocks) - 1, pc)
 
     def check_call(self, index, pc):
-        want(index < len(self.module.signatures), f"function {index}")
+        require(index < len(self.module.signatures), f"function {index}")
         takes, leaves = self.module.signatures[index]
         self.pop_all(takes)
         self.types += leaves
@@ -157,7 +157,7 @@ class Validator:
         self.types.append(self.pop(first))
 
     def variable(self, index):
-        want(index < len(self.variables), f"variable {index}")
+        require(index < len(self.variables), f"variable {index}")
         return self.variables[index]
 
     def check_local_get(self, index, pc):
@@ -170,11 +170,11 @@ class Validator:
         self.types.append(self.pop(self.variable(index)))
 
     def check_global_get(self, index, pc):
-        want(index < len(self.module.globals), f"global {index}")
+        require(index < len(self.module.globals), f"global {index}")
         self.types.append(self.module.globals[index].width)
 
     def check_global_set(self, index, pc):
-        want(index < len(self.module.globals) and self.module.globals[index].is_mutable, f"a store to global {index}")
+        require(index < len(self.module.globals) and self.module.globals[index].is_mutable, f"a store to global {index}")
         self.pop(self.module.globals[index].width)
 
 
@@ -185,14 +185,14 @@ def ends_of(code):
         if x.opcode.behind == "block":
             open_ones.append(pc)
         elif x.opcode.name == "end":
-            want(open_ones, "code behind the function's end")
+            require(open_ones, "code behind the function's end")
             ends[open_ones.pop()] = pc
-    want(not open_ones and ends[-1] == len(code) - 1, "a function without an end, or with code behind it")
+    require(not open_ones and ends[-1] == len(code) - 1, "a function without an end, or with code behind it")
     return ends
 
 
 def validate(module):
     """Validates a module, and returns the branches of each function."""
     for place, content in module.segments:
-        want(place + len(content) <= (module.pages or 0) * PAGE, "a segment outside of the memory")
+        require(place + len(content) <= (module.pages or 0) * PAGE, "a segment outside of the memory")
     return [Validator(module, function).check() for function in module.functions]

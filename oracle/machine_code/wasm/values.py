@@ -2,10 +2,10 @@
 64-bit lanes."""
 import contextlib
 
-from symbolic_terms import (BINARY, Memory, Node, Poly, Undecided, Unsupported, at_most, compare_numbers, divided,
-                            halves, is_natural, is_number, is_same_number, minus, ones, operations, plus, rotated,
-                            times, wrapped, zeros_below)
-from symbolic_terms.polynomials import made, remainder
+from oracle.symbolic_terms import (BINARY, Memory, Node, Poly, Undecided, Unsupported, at_most, compare_numbers, divided,
+                                   halves, is_natural, is_number, is_same_number, minus, ones, operations, plus, rotated,
+                                   times, wrapped, zeros_below)
+from oracle.symbolic_terms.polynomials import polynomial, remainder
 
 from .. import values as of_text
 
@@ -39,7 +39,7 @@ def nearest(x, width):
     half = 1 << width - 1
     if isinstance(x, int):
         return (x + half) % (2 * half) - half
-    return made({names: nearest(c, width) for names, c in x.parts.items()})
+    return polynomial({names: nearest(c, width) for names, c in x.parts.items()})
 
 
 def high(x, width):
@@ -125,7 +125,7 @@ def compare_addresses(test, width, a, b):
 # ---- operations
 
 NAMES = {"shr_u": "lshr", "rem_u": "urem"}       # names of the same operations in symbolic_terms/machine.py
-KEPT = "add", "mul", "and", "or", "shl", "lshr"  # operations in a product by halves
+NOTED = "add", "mul", "and", "or", "shl", "lshr"  # operations in a product by halves
 
 
 def binary(name, width, a, b):
@@ -147,7 +147,7 @@ def binary(name, width, a, b):
         return times(divided(a, 1 << width - b)[1], 1 << b)
     name = NAMES.get(name, name)
     answer = BINARY[name](width, a, b)
-    return halves.noted(name, a, b, answer) if width == WORD and name in KEPT else answer
+    return halves.noted(name, a, b, answer) if width == WORD and name in NOTED else answer
 
 
 def masked(x, mask, width):

@@ -6,8 +6,8 @@ Each call takes the secret, of any length that fits in memory. Calls test if the
 record without stripes, whose accumulators are known, is a separate case."""
 import functools
 
-from symbolic_terms import (LONGEST as MOST_BYTES, Node, NotShown, Request, at_most, given, is_natural, is_same_number, minus,
-                            plus, same, symbol, times, variable)
+from oracle.symbolic_terms import (LONGEST as MOST_BYTES, Node, NotShown, Request, at_most, given, is_natural, is_same_number, minus,
+                                   plus, same, symbol, times, variable)
 
 from .. import layouts
 from ..cargo_streams import FEW
@@ -31,7 +31,7 @@ def parted(case, at):
 
 
 class ModuleUpdates(Xxh3Updates):
-    at, HAS_COUNTERS, KINDS = layouts.RECORD, False, (UPDATES, DIGESTS, STRIPES)     # refusals.py tests the counters
+    at, HAS_COUNTERS, TASKS = layouts.RECORD, False, (UPDATES, DIGESTS, STRIPES)     # refusals.py tests the counters
     library, longest_secret, longest_piece = calls.Page, LONGEST, LONGEST
 
     def __init__(self, vm):
@@ -65,14 +65,14 @@ class ModuleUpdates(Xxh3Updates):
             if self.cpu.has_asked and not isinstance(seed, Node):
                 raise NotShown(f"a start, {way}: whether the seed is 0 was asked")
             self.has_seed, self.seed = int(seed is not None), seed
-            cells = [*self.words(map(self.after(0), range(8))), *self.numbers((0, 0), 0)]
-            self.expect_words(f"a start, {way}", stream.record, [*self.own()[:1 + self.has_seed], *cells])
+            cells = [*self.cells_of(map(self.after(0), range(8))), *self.numbers((0, 0), 0)]
+            self.expect_stored(f"a start, {way}", stream.record, [*self.own()[:1 + self.has_seed], *cells])
             if way == "seed":
                 secret = self.texts["derived_secret"](seed)
-                self.expect_words("a derived secret", stream.derived, [
+                self.expect_stored("a derived secret", stream.derived, [
                     (k, self.texts["word64"](secret, k)) for k in range(0, calls.DERIVED, 8)])
 
-    def expect_words(self, what, memory, cells):
+    def expect_stored(self, what, memory, cells):
         for at, x in cells:
             if not same(memory.load(at, 8), x):
                 raise NotShown(f"{what}: {memory.name} at {at} is {memory.load(at, 8)} and not {x}")
@@ -80,7 +80,7 @@ class ModuleUpdates(Xxh3Updates):
     # ---- cases
 
     def all_updates(self):
-        yield from map(self.with_room, self.by_paths())
+        yield from map(self.with_limit, self.by_paths())
 
     def by_paths(self):
         """Splits a case in two if the length of its chunk may be on both sides of a separate path."""
@@ -104,12 +104,12 @@ class ModuleUpdates(Xxh3Updates):
         """Makes a chunk of no bytes with a full buffer a separate case."""
         for (place, f), end, length, facts in super().small_pieces():
             if is_same_number(length, 0) and not is_same_number(f, 0):
-                yield (place, self.room), (place, self.room), length, facts
-                facts = [*facts, at_most(f, self.room - 1)]
+                yield (place, self.capacity), (place, self.capacity), length, facts
+                facts = [*facts, at_most(f, self.capacity - 1)]
             yield (place, f), end, length, facts
 
     @staticmethod
-    def with_room(case):
+    def with_limit(case):
         """Adds the fact that an update's chunk fits in memory."""
         start, end, length, facts, *rest = case
         return start, end, length, [*facts, at_most(length, LONGEST)], *rest

@@ -1,12 +1,12 @@
 """Semantics of instructions on words, control flow and memory."""
-from symbolic_terms import Unsupported, lifted, ones, plus, rotated
+from oracle.symbolic_terms import Unsupported, lifted, ones, plus, rotated
 
 from ..flags import is_equal
 
 from ..values import WORD, address, arithmetic, bits, high_and_low, joined, low, place_of
 from .objects import Register, Shift, Vector
 from .processor import RETURN, Page, ReturnTo, form
-from .vectors import of_words, words_of
+from .vectors import of_quarters, quarters_of
 
 SIZES = {"b": 1, "h": 2}          # suffixes of ldrb, strh and others
 OPERATIONS = {"add": "add", "sub": "sub", "adds": "add", "subs": "sub", "cmp": "sub", "cmn": "add", "mul": "mul", "and": "and",
@@ -18,9 +18,9 @@ def value(cpu, x, width):
 
 
 def shifted(x, width, shift):
-    if shift.kind == "ror":
+    if shift.op == "ror":
         return rotation(x, width, shift.amount)
-    word, k = "shl" if shift.kind == "lsl" else "lshr", shift.amount % width
+    word, k = "shl" if shift.op == "lsl" else "lshr", shift.amount % width
     return arithmetic(word, width, x, k) if k else x
 
 
@@ -217,9 +217,9 @@ def compare_if(cpu, x, a, b, given, condition):
 @form("ld1", "s[] m")
 def load_into_lane(cpu, x, to, where):
     memory, at = cpu.place(where, x)
-    words = words_of(cpu.vectors[to.number])
-    words[to.lane] = memory.load(at, 4)
-    cpu.vectors[to.number] = of_words(words)
+    parts = quarters_of(cpu.vectors[to.number])
+    parts[to.lane] = memory.load(at, 4)
+    cpu.vectors[to.number] = of_quarters(parts)
 
 
 @form("brk", "i")

@@ -9,7 +9,7 @@ from .refusals import Undecided, Unsupported
 from .rules import ones
 
 
-def words(on_numbers, on_terms, on_polynomials=None):
+def operator(on_numbers, on_terms, on_polynomials=None):
     """Returns an operation modulo 2 ^ width. If the result on polynomials is undecided, it becomes a term."""
     def operation(width, a, b):
         if isinstance(a, int) and isinstance(b, int):
@@ -33,7 +33,7 @@ def no_terms(width, a, b):
 
 def xor(width, a, b):
     for x, other in ((a, b), (b, a)):
-        if other.__class__ is int and other == ones(width) and isinstance(x, Node) and x.kind is SUM:
+        if other.__class__ is int and other == ones(width) and isinstance(x, Node) and x.op is SUM:
             return operations.complement(width, x)
     return operations.xor(a, b)
 
@@ -48,21 +48,21 @@ def low_bits(width, a, b):
 
 
 BINARY = {
-    "add": words(lambda w, a, b: a + b, lambda w, a, b: operations.add_at(w, (1, a), (1, b)),
-                 lambda w, a, b: wrapped(plus(a, b), w)),
-    "sub": words(lambda w, a, b: a - b, lambda w, a, b: operations.add_at(w, (1, a), (-1, b)),
-                 lambda w, a, b: wrapped(minus(a, b), w)),
-    "mul": words(lambda w, a, b: a * b, operations.multiply_at, lambda w, a, b: wrapped(times(a, b), w)),
-    "xor": words(lambda w, a, b: a ^ b, xor),
-    "or": words(lambda w, a, b: a | b, lambda w, a, b: operations.either(a, b)),
-    "and": words(lambda w, a, b: a & b, lambda w, a, b: operations.both(a, b), low_bits),
-    "shl": words(lambda w, a, b: a << b, lambda w, a, b: operations.multiply_at(w, a, 1 << amount(b)),
-                 lambda w, a, b: wrapped(times(a, 1 << amount(b)), w)),
-    "lshr": words(lambda w, a, b: a >> b, lambda w, a, b: operations.shift_right(a, amount(b)),
-                  lambda w, a, b: divided(a, 1 << amount(b))[0]),
-    "udiv": words(lambda w, a, b: a // b, no_terms, lambda w, a, b: divided(a, b)[0]),
-    "urem": words(lambda w, a, b: a % b, no_terms, lambda w, a, b: divided(a, b)[1]),
-    "sdiv": words(lambda w, a, b: int(signed(a, w) / signed(b, w)), no_terms),
+    "add": operator(lambda w, a, b: a + b, lambda w, a, b: operations.add_at(w, (1, a), (1, b)),
+                    lambda w, a, b: wrapped(plus(a, b), w)),
+    "sub": operator(lambda w, a, b: a - b, lambda w, a, b: operations.add_at(w, (1, a), (-1, b)),
+                    lambda w, a, b: wrapped(minus(a, b), w)),
+    "mul": operator(lambda w, a, b: a * b, operations.multiply_at, lambda w, a, b: wrapped(times(a, b), w)),
+    "xor": operator(lambda w, a, b: a ^ b, xor),
+    "or": operator(lambda w, a, b: a | b, lambda w, a, b: operations.either(a, b)),
+    "and": operator(lambda w, a, b: a & b, lambda w, a, b: operations.both(a, b), low_bits),
+    "shl": operator(lambda w, a, b: a << b, lambda w, a, b: operations.multiply_at(w, a, 1 << amount(b)),
+                    lambda w, a, b: wrapped(times(a, 1 << amount(b)), w)),
+    "lshr": operator(lambda w, a, b: a >> b, lambda w, a, b: operations.shift_right(a, amount(b)),
+                     lambda w, a, b: divided(a, 1 << amount(b))[0]),
+    "udiv": operator(lambda w, a, b: a // b, no_terms, lambda w, a, b: divided(a, b)[0]),
+    "urem": operator(lambda w, a, b: a % b, no_terms, lambda w, a, b: divided(a, b)[1]),
+    "sdiv": operator(lambda w, a, b: int(signed(a, w) / signed(b, w)), no_terms),
 }
 
 
