@@ -144,6 +144,7 @@ OF_STATES = [
     Wrong("a digest that takes a secret of 100 bytes", begun(DIGEST_WITH, *of_length("%rdx", 100, "mov $0x88,%edx")), calls.out_of_range,
           "v == 100"),
     Wrong("a secret that another length is passed on with", begun(UPDATE_WITH, "sub $0x8,%r8"), callers_long, "."),
+    Wrong("another secret, passed on with a chunk that doesn't fit", begun(UPDATE_WITH, "add $0x8,%rcx"), callers_long, "a call of"),
     Wrong("a chunk that doesn't fit and is passed on with another length", begun(UPDATE, "dec %rdx"), xxh3_long, "."),
     Wrong("an update that changes the state after a chunk that doesn't fit", begun(UPDATE, *changed(STATE.buffer_usage)), xxh3_long,
           "after one|another"),

@@ -65,9 +65,11 @@ class CallersSecret(Xxh3Updates):
     # ---- chunks that don't fit in the buffer
 
     def long_pieces(self):
-        """Yields the chunks that don't fit, as arguments of `long_update`."""
+        """Yields the chunks that don't fit, as arguments of `long_update`. A full buffer is a separate case."""
         b, j, f, n = (variable(name) for name in "bjfn")
-        for place, buffered, facts in (((0, 0), 0, []), ((b, j), f, [minus(minus(self.q, 1), j), minus(f, 1), at_most(f, self.capacity)])):
+        bounds = (1, self.capacity - 1), (self.capacity, self.capacity)
+        for place, buffered, facts in (((0, 0), 0, []), *(((b, j), f, [minus(minus(self.q, 1), j), minus(f, low), at_most(f, high)])
+                                                          for low, high in bounds)):
             length = plus(minus(self.capacity + 1, buffered), n)
             for least, most in self.SPANS:
                 if most is None or buffered is f or most > self.capacity:
