@@ -12,7 +12,7 @@ from symbolic_terms import (REFUSALS, RUNS, Input, Memory, NotShown, Piece, at_m
                             step_between, symbol, times, variable)
 
 from . import (assumptions, blocks, choices, conditions, contents, definitions, exported, lengths, libraries, loops,
-               processors, programs, readers, storage, updates)
+               machines, processors, programs, readers, storage, terms, updates)
 from .values import expect, refuses
 
 BLOCK, FIRST = 16, 3              # stripes of a block, and the place in it where a loop begins
@@ -315,6 +315,6 @@ def plus_address(place):
 
 # Modules with further tests.
 MODULES = (assumptions, blocks, choices, conditions, contents, definitions, exported, lengths, libraries, loops,
-           programs, readers, storage, updates)
+           machines, programs, readers, storage, terms, updates)
 ALL = [heads, sources_of_v4, turns, records, places, tasks_of_streams, states, held_words, steps_in_blocks, places_in_inputs, families, advances,
        earlier_guesses, changed_cells, long_calls, *(test for module in MODULES for test in module.ALL)]
