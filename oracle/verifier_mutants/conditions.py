@@ -296,8 +296,9 @@ def shifted_numbers(_):
         found = arithmetic("lshr", 64, plus(n, 3), 2)
         number, k = values.quotients[found.number]
         expect(is_same_number(number, plus(n, 3)) and k == 2, True, "the quotient of a shift")
-        for word, a, b in (("and", plus(n, 3), 12), ("shl", x, 3), ("lshr", x, 3), ("mul", x, 3), ("xor", plus(n, 3),
-                3)):
+        for word, a, b in (("and", plus(n, 3), 12), ("shl", x, 3), ("lshr", x, 3), ("mul", x, 3),
+                           ("xor", plus(n, 3), 3), ("add", n, (1 << 64) - 50), ("sub", n, 50),
+                           ("mul", n, 1 << 60), ("shl", n, 60)):
             answer = arithmetic(word, 64, a, b)
             expect(getattr(answer, "number", -1) not in values.quotients, True, f"{word} as a quotient")
         expect(is_same_number(arithmetic("lshr", 64, times(n, 8), 3), n), True, "a shift that leaves a number")

@@ -55,6 +55,14 @@ def kinds(_):
         expect(operations.either(a, b), a | b, "or")
 
 
+def undecided_orders(_):
+    """Tests that each order and equality of terms whose bounds don't decide it is refused, in both orders."""
+    byte, other = symbol("a byte", 8), symbol("another byte", 8)
+    for a, b in ((byte, other), (byte, 7), (7, byte), (byte, 254), (254, byte)):
+        for ask in (lambda: a < b, lambda: a <= b, lambda: a > b, lambda: a >= b, lambda: a == b, lambda: a != b):
+            refuses(ask, f"the order of {a} and {b}")
+
+
 def joined_sums(_):
     """Tests that parts of a sum or product side by side are the whole again, also if they were narrowed."""
     x, y = symbol("x64", 64), symbol("y64", 64)
@@ -492,6 +500,6 @@ def sums(_):
         expect(found is None or value_of(found) == shifted.values[0] >> k, True, f"a sum from bit {k} on")
 
 
-ALL = [kinds, joined_sums, values_of_operations, points, forgotten_tables, numbers, operators_on_numbers,
-       operators_with_texts, facts, points_of_variables, sums_of_facts, quotients, numbers_as_words,
-       operations_on_words, rotations, segments, sums]
+ALL = [kinds, undecided_orders, joined_sums, values_of_operations, points, forgotten_tables, numbers,
+       operators_on_numbers, operators_with_texts, facts, points_of_variables, sums_of_facts, quotients,
+       numbers_as_words, operations_on_words, rotations, segments, sums]
