@@ -22,7 +22,7 @@ def title_of(hash_name, variant, secret):
 
 def edges(secret_length):
     """Returns lengths above 1,100 at the edges of blocks."""
-    block = 64 * ((secret_length or 192) - 64) // 8
+    block = 64 * (((secret_length or 192) - 64) // 8)
     ends = [b * block + d for b in range(1, LONGEST // block + 1) for d in (0, 1)]
     return sorted({n for n in [*ends, 2048, 2049, 4096, 4097, LONGEST - 1, LONGEST] if EDGES_FROM <= n <= LONGEST})
 

@@ -11,7 +11,8 @@ from oracle.machine_code.values import Names, address, joined
 from oracle.symbolic_terms import (REFUSALS, RUNS, Input, Memory, NotShown, Piece, at_most, given, is_same_number, minus, moved, plus, same,
                                    step_between, symbol, times, variable)
 
-from . import assumptions, choices, contents, processors
+from . import (assumptions, blocks, choices, conditions, contents, definitions, exported, lengths, libraries, loops,
+               machines, processors, programs, readers, storage, terms, updates)
 from .values import expect, refuses
 
 BLOCK, FIRST = 16, 3              # stripes of a block, and the place in it where a loop begins
@@ -312,5 +313,8 @@ def plus_address(place):
     return address(memory, at + 1)
 
 
+# Modules with further tests.
+MODULES = (assumptions, blocks, choices, conditions, contents, definitions, exported, lengths, libraries, loops,
+           machines, programs, readers, storage, terms, updates)
 ALL = [heads, sources_of_v4, turns, records, places, tasks_of_streams, states, held_values, steps_in_blocks, places_in_inputs, families, advances,
-       earlier_guesses, changed_cells, long_calls, *assumptions.ALL, *choices.ALL, *contents.ALL]
+       earlier_guesses, changed_cells, long_calls, *(test for module in MODULES for test in module.ALL)]

@@ -50,6 +50,13 @@ def inner(code):
     return [x for x in code.co_consts if isinstance(x, types.CodeType)]
 
 
+def within(code):
+    """Yields the code objects inside a code object."""
+    for x in inner(code):
+        yield x
+        yield from within(x)
+
+
 def own(code):
     """Returns what a code object does itself, without the functions in it."""
     numbers = [(x.__class__, repr(x)) for x in code.co_consts if not isinstance(x, types.CodeType)]
@@ -92,11 +99,12 @@ class Patch:
                                                   _ in self.pairs)      # a function's locals are optimized
 
     def put(self, by_code):
-        """Gives the functions their other code. Returns whether there were any for each code object."""
+        """Gives the functions their other code. Returns whether there were any for each code object, and none inside
+        it that exist already and keep their code."""
         for old, new in self.pairs:
             for function in by_code.get(id(old), ()):
                 function.__code__ = new
-        return all(by_code.get(id(old)) for old, _ in self.pairs)
+        return all(by_code.get(id(old)) and not any(by_code.get(id(x)) for x in within(old)) for old, _ in self.pairs)
 
 
 def import_again(loader, patch):

@@ -15,8 +15,8 @@ from oracle import antt
 
 from . import edits, patches
 
-LONGEST, MOST_MEMORY = 20, 5 << 30      # CPU seconds and bytes of memory of a mutant
-BUDGET = {"value": 4, "processor": 3, "right": 5, "planted": 5}      # CPU seconds of the checks of a kind, for a mutant
+LONGEST, MOST_MEMORY = 40, 5 << 30      # CPU seconds and bytes of memory of a mutant
+BUDGET = {"value": 20, "processor": 3, "right": 5, "planted": 5}      # CPU seconds of the checks of a kind, for a mutant
 UNDETECTED, EQUAL = "undetected", "equal code"
 
 # The mutant's title, whether it is of a decision, what detected it and by which check, whether it was put into the
