@@ -319,7 +319,8 @@ def started_processes(_):
             def join(self):
                 done.append("joined")
         fork = types.SimpleNamespace(Pipe=processes.FORK.Pipe, Process=Process)
-        with patched(processes, "FORK", fork):
+        # A forked process has the lock as its parent held it.
+        with patched(processes, "FORK", fork), patched(processes, "STARTING", contextlib.nullcontext()):
             task = Task("a task", None)
             found = processes.in_process(task)
         expect(found == (("the report", True) if sends else ("FAILED a task: its process ended", False)), True,
