@@ -3,6 +3,7 @@
 The originals define what is correct, so only a case in which ours intentionally differs has an expected result here;
 docs/XXHSUM.md has the reason of each. The digests in lists are those of the files below, as the originals printed
 them."""
+import shlex
 from typing import NamedTuple, Optional
 
 from . import messages
@@ -1082,6 +1083,46 @@ def small_stacks():
     ]
 
 
+def excluded(tree):
+    """Runs that skip names in directories."""
+    found = {
+        'a file': (('--exclude', 'z'), b'', (b'B', b'a', b'b/deep/q', b'b.x/c')),
+        'a folder, and of a file': (('--exclude=deep', '--exclude', 'a'), b'', (b'B', b'b/z', b'b.x/c')),
+        'each name with a dot': (('--exclude', '*.*'), b'', (b'B', b'a', b'b/deep/q', b'b/z')),
+        'names of three bytes': (('--exclude=?.?',), b'', (b'B', b'a', b'b/deep/q', b'b/z')),
+        'names of one byte': (('--exclude=?',), b'', ()),
+        'a quoted star': (('--exclude', '\\*'), b'', (b'B', b'a', b'b/deep/q', b'b/z', b'b.x/c')),
+        'the names that are given': (('--exclude', 't', '--exclude=B'), b't/B', (b'a', b'b/deep/q', b'b/z', b'b.x/c')),
+        'everything': (('--exclude=*',), b'', ()),
+    }
+    digests = {b'B': EMPTY, b'b/deep/q': EMPTY}
+
+    def lines(names):
+        return b''.join(digests.get(name, X64) + b'  t/' + name + b'\n' for name in names)
+
+    wrong = b"Wrong parameters: '--exclude'"
+    slash = fails([b"Wrong parameters: '/' in a pattern of '--exclude'"])
+    return [
+        *(
+            Case(
+                f'--exclude of {name}',
+                shell=f'{tree}"$X" -r {shlex.join(args)} {given.decode()} t',
+                expected=ours((EMPTY + b'  t/B\n' if given else b'') + lines(names)),
+            )
+            for name, (args, given, names) in found.items()
+        ),
+        Case(
+            '--exclude in an audit',
+            shell=tree + '"$X" -r --exclude b t >list; "$X" -r --audit --exclude=b list t',
+            expected=audited(b't/B: same', b't/a: same', b't/b.x/c: same'),
+        ),
+        Case('--exclude without -r', ('--exclude', 'a', 'b'), expected=fails([wrong + b" without '-r'"])),
+        Case('--exclude without a pattern', ('-r', '--exclude'), expected=fails([wrong])),
+        Case('--exclude of a path', ('-r', '--exclude', 'd/inner', 'd'), expected=slash),
+        Case('--exclude= of a path', ('--exclude=/', '-r', 'd'), expected=slash),
+    ]
+
+
 def folders():
     """The files below directories, which neither original reads."""
     tree = (
@@ -1149,6 +1190,7 @@ def folders():
             shell=tree + bound + '$run "$X" -r t; status=$?; chmod 700 t/b; exit $status',
             expected=fails([closed], b''.join(line for line in found.splitlines(keepends=True) if b't/b/' not in line)),
         ),
+        *excluded(tree),
         Case('-r to a full disk', shell='"$X" -r d >/dev/full', expected=refused()),
         Case(
             'an audit of a folder',

@@ -13,6 +13,8 @@ FILES = {'bash': 'xxhsum.bash', 'zsh': '_xxhsum', 'fish': 'xxhsum.fish'}
 # The help has one line for the option of the algorithm, with a number in place of #.
 ALGORITHM = '-H#'
 ALGORITHMS = {'-H0': 'XXH32', '-H1': 'XXH64', '-H2': 'XXH3 of 128 bits', '-H3': 'XXH3 of 64 bits'}
+# The options that an argument follows, and its name in the help.
+VALUES = {'--exclude': 'PATTERN'}
 WRITTEN = 'Written from the help by checks/xxhsum --completions.'
 
 
@@ -24,7 +26,7 @@ def options_of(text):
     """The options of a help: for each its names, and its description. A line that begins with more spaces continues."""
     lines = re.sub(r'\n {10,}', '  ', text).splitlines()
     found = [re.split(r' {2,}', line.strip(), maxsplit=1) for line in lines if line.startswith('  -')]
-    options = [(names.split(', '), ' '.join(about.split())) for names, about in found]
+    options = [(re.sub(r' [A-Z]+$', '', names).split(', '), ' '.join(about.split())) for names, about in found]
     algorithms = [([name], about) for name, about in ALGORITHMS.items()]
     return [option for names, about in options for option in (algorithms if names == [ALGORITHM] else [(names, about)])]
 
@@ -52,9 +54,11 @@ def for_zsh(options):
     """`_arguments` offers an option once, whichever of its names is given."""
     specs = []
     for names, about in options:
-        about = about.replace('[', '\\[').replace(']', '\\]')
+        about = re.sub(r'([\\\[\]])', r'\\\1', about)
         group = f'({" ".join(names)})' if len(names) > 1 else ''
-        specs += [quoted(f'{group}{name}[{about}]') for name in names]
+        for name in names:
+            value = VALUES.get(name, '').lower()
+            specs.append(quoted(f'*{name}=[{about}]:{value}:' if value else f'{group}{name}[{about}]'))
     return (
         f'#compdef {" ".join(NAMES)}\n# Completions of xxhsum for zsh. {WRITTEN}\n_arguments -s -S \\\n'
         + ''.join(f'    {spec} \\\n' for spec in specs)
@@ -63,7 +67,10 @@ def for_zsh(options):
 
 
 def fish_switch(name):
-    """A name as fish's `complete` takes it: long, a single letter, or longer after a single dash."""
+    """A name as fish's `complete` takes it: long, a single letter, or longer after a single dash. `-x` if it needs an
+    argument."""
+    if name in VALUES:
+        return f'-x -l {name[2:]}'
     return f'-l {name[2:]}' if name.startswith('--') else f'-s {name[1:]}' if len(name) == 2 else f'-o {name[1:]}'
 
 
@@ -85,7 +92,7 @@ def write_files(program: str) -> None:
 
 
 BASH = '. "$1"; COMP_WORDS=(xxhsum %s); COMP_CWORD=%d; _xxhsum; printf "%%s\\n" "${COMPREPLY[@]}"'
-ZSH = '_arguments() { for word; do [[ $word == *\\[* ]] && print -r -- ${${word%%\\[*}##*\\)}; done }; . $1'
+ZSH = '_arguments() { for word; do [[ $word == *\\[* ]] && print -r -- ${${${${word%%\\[*}##*\\)}#\\*}%=}; done }; . $1'
 FISH = 'source $argv[1]; complete -C "xxhsum %s-"; complete -C "xxhsum %s--"'
 # What each shell offers for an argument that begins with `-`, one word per line. zsh has no completions without a
 # terminal, so its function for arguments prints the options that it is given.

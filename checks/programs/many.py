@@ -2,13 +2,18 @@
 
     checks/xxhsum-many PROGRAM.. [--only WORD]
 
-A tree of 150,000 names, of which one directory has 120,000; names of every shape, as find and sort print them; an audit
+A tree of 150,000 names, of which one directory has 120,000; names of every shape, as find and sort print them, and
+without those that patterns exclude, as find and Python's fnmatch match them; an audit
 of 70,000 equal files; a list of names that comes in 150,000 reads; 130,000 arguments. All files are empty, and the
 expected output is derived from the digest of no bytes. Wrong programs are planted, which must be detected. The last
 line is "N passed, M failed". It takes some 20 seconds of processor time for each program, and no space except that of
 the names."""
 import contextlib
+import fnmatch
+import itertools
 import os
+import random
+import re
 import subprocess
 import tempfile
 
@@ -65,10 +70,39 @@ SHAPES = [
 ]
 # The longest name that a directory may have, in bytes.
 LONGEST_NAME = 255
+# Patterns of `--exclude` for these names: each byte that is special, quoted or not, and each place of a `*`.
+PATTERNS = ['*', '?', '.*', '*.*', '..?*', '.hidden', '.inner', '*inner', 'inner*', 'i*n*r', 'n*', '*n', 'n?*n']
+PATTERNS += [
+    'a?b',
+    'a*b',
+    'a\\*b',
+    'a\\?b',
+    'a\\\\b',
+    '\\a\\-\\b',
+    '\\*',
+    '\\',
+    'a\\',
+    'é',
+    '??',
+    '-*',
+    '',
+    'n' * 100 + '*' * 9,
+]
+PATTERNS += ['*n' * 9, '*\n*', '* *', '~', '**a**', 'config', '.git', 'shapes']
+# Patterns and names that Python's fnmatch compares.
+SEED, SAMPLES, LETTERS = 7, 300, ['a', 'b', '*', '?', '\\a', '\\*', '\\?', '\\\\']
 # Programs that do one thing wrong with the real one, which is $REAL, and the test that must detect it.
 PLANTED = {
     'hidden names left out': ('"$REAL" "$@" | grep -zv "/\\."', 'names of every shape'),
     'long names left out': ('"$REAL" "$@" | grep -zv "n\\{236\\}"', 'names of every shape'),
+    'a pattern that begins at the second byte': (
+        '[ "$3" = "*inner" ] && set -- -rz --exclude inner shapes; exec "$REAL" "$@"',
+        'excluded names',
+    ),
+    'a star that is forgotten': (
+        '[ "$3" = "i*n*r" ] && set -- -rz --exclude "i*nr" shapes; exec "$REAL" "$@"',
+        'excluded names',
+    ),
     'a folder whose names end early': ('"$REAL" "$@" | head -n 532', 'a tree of many names'),
     'no memory for many files': ('echo "Error: Out of memory." >&2; exit 1', 'an audit of many equal files'),
     'a list that is read in part': ('head -c 100000 | "$REAL" "$@"', 'a list in many reads'),
@@ -135,6 +169,43 @@ def shapes_of_names(program, _names):
     return f'{len(built):,} names'
 
 
+def excluded_names(program, _names):
+    """The tree without the names that each pattern matches, as `find` prunes it."""
+    shapes_of_names(program, _names)
+    for pattern in PATTERNS:
+        listed = subprocess.run(
+            ['find', 'shapes', '-mindepth', '1', '-name', pattern, '-prune', '-o', '-type', 'f', '-print0'],
+            stdout=subprocess.PIPE,
+            stderr=subprocess.DEVNULL,
+            check=True,
+            env={**os.environ, 'LC_ALL': 'C'},
+        ).stdout
+        result = found(program, ['-rz', '--exclude', pattern, 'shapes'], seconds=SECONDS)
+        check_output(result, lines(sorted(listed.split(b'\0')[:-1]), b'\0'))
+    return f'{len(PATTERNS)} patterns'
+
+
+def python_pattern(pattern):
+    """A pattern for fnmatch, in which a class of one byte quotes it."""
+    return re.sub(r'\\(.)', r'[\1]', pattern).encode()
+
+
+def sampled_patterns(program, _names):
+    """All names of at most four bytes of an alphabet, without those that fnmatch matches, for patterns of a fixed
+    seed."""
+    names = [''.join(name) for count in range(1, 5) for name in itertools.product('ab*\\', repeat=count)]
+    built = sorted(b'short/' + name.encode() for name in names)
+    for name in built if not os.path.exists('short') else ():
+        os.makedirs('short', exist_ok=True)
+        make_empty(name)
+    rng = random.Random(SEED)
+    for _ in range(SAMPLES):
+        pattern = ''.join(rng.choices(LETTERS, k=rng.randint(0, 6)))
+        expected = [name for name in built if not fnmatch.fnmatchcase(name[6:], python_pattern(pattern))]
+        check_output(found(program, ['-rz', f'--exclude={pattern}', 'short'], seconds=SECONDS), lines(expected, b'\0'))
+    return f'{SAMPLES} patterns, {len(built)} names'
+
+
 def audit_of_equal_files(program, names):
     chosen = names[:AUDITED]
     write('list', lines(chosen))
@@ -174,6 +245,8 @@ def many_arguments(program, _names):
 CASES = {
     'a tree of many names': many_names,
     'names of every shape': shapes_of_names,
+    'excluded names': excluded_names,
+    'excluded names of an alphabet': sampled_patterns,
     'an audit of many equal files': audit_of_equal_files,
     'a list in many reads': many_reads,
     'many arguments': many_arguments,

@@ -13,19 +13,14 @@ all-same : (f : List Found) → are_same f ≡ true → (one : Found) → IsAmon
 all-same [] e one h = absurd h
 all-same (Same l n ∷ f) e one (inl is) = (l, n, sym is)
 all-same (Same l n ∷ f) e one (inr h) = all-same f e one h
-all-same (Changed l n ∷ f) e one h = let no : ⊥ = cc in absurd no
-all-same (Moved l n ∷ f) e one h = let no : ⊥ = cc in absurd no
-all-same (Copied o n ∷ f) e one h = let no : ⊥ = cc in absurd no
-all-same (New n ∷ f) e one h = let no : ⊥ = cc in absurd no
-all-same (Missing l ∷ f) e one h = let no : ⊥ = cc in absurd no
+all-same (found ∷ f) e one h = let no : ⊥ = cc in absurd no
 
 -- Lemma: a name that is not unreadable has a digest.
 digested : (name : List ℕ) (outcome : Outcome) → unless_digested name outcome ≡ [] → is_digested outcome ≡ true
 digested name (Digested value) e = refl
-digested name IsDirectory e = let no : ⊥ = cc in absurd no
-digested name (Unread reason) e = let no : ⊥ = cc in absurd no
+digested name outcome e = let no : ⊥ = cc in absurd no
 
-nothing : (xs : List (List ℕ)) → has_none xs ≡ true → xs ≡ []
+pub nothing : (xs : List (List ℕ)) → has_none xs ≡ true → xs ≡ []
 nothing [] e = refl
 nothing (x ∷ xs) e = let long : length (x ∷ xs) ≡ 0 = grind (arith, nat_tests, e) in absurd (omega (arith, long))
 
@@ -61,8 +56,7 @@ module _ {S F : Type 0} (files : Files S F) (kind : Kind) (lost : List (List ℕ
           | inr b ↦ let t = ih.3 s b in (inr t.0, t.1)
         ],
   )
-  there-name n ls ns rows IsDirectory is comes ih = let no : ⊥ = cc in absurd no
-  there-name n ls ns rows (Unread reason) is comes ih = let no : ⊥ = cc in absurd no
+  there-name n ls ns rows outcome is comes ih = let no : ⊥ = cc in absurd no
 
   there-both : (l : Item) (n : List ℕ) (ls : List Item) (ns : List (List ℕ)) (rows : List Row) (outcome : Outcome) → is_digested outcome ≡ true
       → Comes files (kind_of l) n outcome → AllThere ls ns rows → AllThere (l ∷ ls) (n ∷ ns) (Met l n outcome ∷ rows)
@@ -76,8 +70,7 @@ module _ {S F : Type 0} (files : Files S F) (kind : Kind) (lost : List (List ℕ
           | inr b ↦ let t = ih.3 s b in (inr t.0, t.1)
         ],
   )
-  there-both l n ls ns rows IsDirectory is comes ih = let no : ⊥ = cc in absurd no
-  there-both l n ls ns rows (Unread reason) is comes ih = let no : ⊥ = cc in absurd no
+  there-both l n ls ns rows outcome is comes ih = let no : ⊥ = cc in absurd no
 
   abbrev AllRead : List Item → List (List ℕ) → List (Side Item (List ℕ)) → Type 0
   AllRead ls ns sides = (rows : List Row) → AreRows files kind lost sides rows → unread_in rows ≡ [] → AllThere ls ns rows

@@ -1,5 +1,5 @@
 mod FindFacts
-mod GoodAuditFacts
+pub mod GoodAuditFacts
 mod JoinFacts
 mod OnceFacts
 mod Prelude

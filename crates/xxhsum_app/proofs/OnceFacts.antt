@@ -123,23 +123,16 @@ names-apart folder (n ∷ names) plain once = (
 
 module _ (tree : Tree) (holds : HoldsNames tree) where
   below-apart : (place : Place) (seen : Seen) → IsSeen tree place seen → Apart (below_of seen)
-  below-apart place (Leaf name) sees = tt
-  below-apart place (Passed name) sees = tt
-  below-apart place (Closed name why) sees = tt
-  below-apart place (Lost name why) sees = tt
   below-apart place (Opened folder ordered) sees =
       let found = sees.1.1 in
       let moved = found.2.0 in
       names-apart (with_slash folder) ordered
       (λ name h. holds.plain (with_slash place.0) found.0 name found.1 (among_permutation ordered found.0 name (IsPermutation-sym found.0 ordered moved) h))
       (λ name rest twice. holds.once (with_slash place.0) found.0 name rest found.1 (IsPermutation-trans found.0 ordered (name ∷ name ∷ rest) moved twice))
+  below-apart place seen sees = tt
 
   below-under : (place : Place) (seen : Seen) → IsSeen tree place seen → (q : Place) → IsAmong (below_of seen) q
       → (path : List ℕ) → Under q.0 path → Under place.0 path
-  below-under place (Leaf name) sees q h path under = absurd h
-  below-under place (Passed name) sees q h path under = absurd h
-  below-under place (Closed name why) sees q h path under = absurd h
-  below-under place (Lost name why) sees q h path under = absurd h
   below-under place (Opened folder ordered) sees q h path under =
       let found = sees.1.1 in
       let there = from-places (below (with_slash folder) false) ordered q h in
@@ -147,6 +140,7 @@ module _ (tree : Tree) (holds : HoldsNames tree) where
       (among_permutation ordered found.0 there.0 (IsPermutation-sym found.0 ordered found.2.0) there.1) in
       subst (λ f. Under f path) sees.1.0
       (under-folder folder there.0 path plain.0 plain.1 (subst (λ p. Under p.0 path) (sym there.2) under))
+  below-under place seen sees q h path under = absurd h
 
   next-apart : (place : Place) (places : List Place) (seen : Seen) → IsSeen tree place seen → Apart (place ∷ places)
       → Apart (below_of seen ++ places)
@@ -180,12 +174,10 @@ module _ (tree : Tree) (holds : HoldsNames tree) where
         up.0 found.0 found.1 name (inl visits.0.0) found.2,
     once trace places left visits.1 up.1,
   )
-  once (Passed name ∷ trace) (p ∷ places) left visits up = once trace places left visits.1 up.1
-  once (Closed name why ∷ trace) (p ∷ places) left visits up = once trace places left visits.1 up.1
-  once (Lost name why ∷ trace) (p ∷ places) left visits up = once trace places left visits.1 up.1
   once (Opened folder names ∷ trace) (p ∷ places) left visits up =
       once trace (below_of (Opened folder names) ++ places) left visits.1
       (next-apart p places (Opened folder names) visits.0 up)
+  once (seen ∷ trace) (p ∷ places) left visits up = once trace places left visits.1 up.1
 
 pub finds-once : (tree : Tree) → FindsOnce tree
 finds-once tree name trace left holds visits =

@@ -1,5 +1,5 @@
 -- The names that most proofs of the crate import from other modules, re-exported by one module. Declares nothing.
-pub use Rattle.std.proofs.Common.{[], ◌&&◌, ◌++◌, ◌+◌, ◌-◌, ◌∙◌, ◌∷◌, ◌≡◌, ◌≤◌, Bool, Err, List, MatchResult, None, Ok, Option, Result, Some, ap, append-nil, append_assoc, arith, codes, drop, false, inl, inr, length, map}
+pub use Rattle.std.proofs.Common.{[], ◌&&◌, ◌++◌, ◌+◌, ◌-◌, ◌∙◌, ◌∷◌, ◌≡◌, ◌≤◌, Bool, Err, List, MatchResult, None, Ok, Option, Result, Some, ap, append-nil, append_assoc, arith, codes, drop, false, flat_map, inl, inr, length, map}
 pub use Rattle.std.proofs.Common.{option_to_list, refl, reverse, subst, sym, take, true, ℕ}
 pub use Rattle.std.proofs.lemmas.Bool.{cond-false}
 pub use Rattle.std.proofs.lemmas.Bool.Decides.{nat_tests}
@@ -21,7 +21,7 @@ pub use Rattle.xxhsum_app.specs.ReadList.{HaveItems, ListSays, ListSaysNothing}
 pub use Rattle.xxhsum_app.specs.Report.{PrintsFirst, PrintsRemarks, PrintsReport, are_same, counts_text, remarks_of, report_text, shown_text, shown_texts}
 pub use Rattle.xxhsum_app.specs.Rows.{Added, AreRows, IsRow, Met, Removed, Row, is_hidden, messages_in, unread_in, unread_of}
 pub use Rattle.xxhsum_app.specs.Texts.{Breaks, GivesText, HasNoText, HasText, unopened_text, unread_text}
-pub use Rattle.xxhsum_app.specs.Walk.{Closed, IsIn, IsSeen, Leaf, Lost, Opened, Passed, Seen, Tree, Visits, WalksAll, below, closed_in, closed_text, files_in, given, lost_in, lost_of, place_of, tree_of, waiting_in, with_slash}
+pub use Rattle.xxhsum_app.specs.Walk.{Closed, IsIn, IsSeen, Leaf, Lost, Opened, Passed, Seen, Tree, Visits, WalksAll, below, closed_in, closed_text, files_in, given, lost_in, lost_of, kept_name, place_of, tree_of, waiting_in, with_slash, without}
 pub use Rattle.xxhsum_app.specs.WalkLaws.{FindsOnce, HoldsNames, IsOnce}
 pub use Rattle.xxhsum_app.specs.declared.walk.Walked.{Walked}
 pub use Rattle.xxhsum_audit.proofs.AmongFacts.{among_either, among_permutation}
@@ -50,6 +50,7 @@ pub use Rattle.xxhsum_fs.specs.declared.folders.PathKind.{PathKind}
 pub use Rattle.xxhsum_fs.specs.declared.folders.PathKind.TheVariants.{File, Folder, Other, Unknown}
 pub use Rattle.xxhsum_line.proofs.LackFacts.{first_same, lacks_not, lacks_right}
 pub use Rattle.xxhsum_line.specs.Parts.{Lacks}
+pub use Rattle.xxhsum_options.specs.Exclude.{patterns_in}
 pub use Rattle.xxhsum_options.specs.Name.{kind_of_program}
 pub use Rattle.xxhsum_options.specs.Options.{parsed_args}
 pub use Rattle.xxhsum_options.specs.declared.options.ParsedArgs.{ParsedArgs}

@@ -43,11 +43,9 @@ module _ (tree : Tree) where
       (is.0, visits-more (below_of s ++ places) trace place left seen is.1 sees)
 
   pub folder-seen : (place : Place) (seen : Seen) → HasKind tree place.0 place.1 Folder → IsIn tree place.0 seen → IsSeen tree place seen
-  folder-seen place (Leaf name) kind is = absurd is
-  folder-seen place (Passed name) kind is = absurd is
   folder-seen place (Opened name names) kind is = (kind, is)
   folder-seen place (Closed name why) kind is = (kind, is)
-  folder-seen place (Lost name why) kind is = absurd is
+  folder-seen place seen kind is = absurd is
 
   -- ---- one kind for each place
 
@@ -107,23 +105,17 @@ module _ (tree : Tree) where
   -- Lemma: a file reached from a place in a folder is reached from the folder.
   leads-in : (place : Place) (seen : Seen) (next : Place) (behind : List (List ℕ)) (file : List ℕ) → IsSeen tree place seen → IsAmong (below_of seen) next → LeadsTo tree next behind file
       → (more : List (List ℕ)) × LeadsTo tree place more file
-  leads-in place (Leaf name) next behind file sees h leads = absurd h
-  leads-in place (Passed name) next behind file sees h leads = absurd h
-  leads-in place (Closed name why) next behind file sees h leads = absurd h
-  leads-in place (Lost name why) next behind file sees h leads = absurd h
   leads-in place (Opened folder ordered) next behind file sees h leads =
       let found = sees.1.1 in
       let there = from-places (below (with_slash place.0) false) ordered next (subst (λ f. IsAmong (map (below (with_slash f) false) ordered) next) sees.1.0 h) in
       let held = among_permutation ordered found.0 there.0 (IsPermutation-sym found.0 ordered found.2.0) there.1 in
       (there.0 ∷ behind, (sees.0, (found.0, found.1, held), subst (λ q. LeadsTo tree q behind file) (sym there.2) leads))
+  leads-in place seen next behind file sees h leads = absurd h
 
   pub leads-here : (place : Place) (seen : Seen) (file : List ℕ) → IsSeen tree place seen → IsAmong (file_of seen) file → LeadsTo tree place [] file
   leads-here place (Leaf name) file sees (inl e) = (sym e ∙ sees.0, sees.1)
   leads-here place (Leaf name) file sees (inr h) = absurd h
-  leads-here place (Passed name) file sees h = absurd h
-  leads-here place (Opened name names) file sees h = absurd h
-  leads-here place (Closed name why) file sees h = absurd h
-  leads-here place (Lost name why) file sees h = absurd h
+  leads-here place seen file sees h = absurd h
 
   finds-later : (p : Place) (seen : Seen) (places : List Place) (file : List ℕ) → IsSeen tree p seen
       → ((place : Place) × (behind : List (List ℕ)) × IsAmong (below_of seen ++ places) place × LeadsTo tree place behind file)

@@ -63,7 +63,7 @@ PerformsWords tree files input effect options words =
     (PerformsAs files input effect options words)))
 
 -- The command of the arguments is done; or memory for the arguments ran out, and nothing is printed or reported.
-abbrev pub DoesArguments : {W E : Type 0} → (Options → List (List ℕ) → Type 0) → Effect W E → Interactive
+abbrev pub DoesArguments : {W E : Type 0} → (List (List ℕ) → Options → List (List ℕ) → Type 0) → Effect W E → Interactive
     → Option (List (List ℕ)) → Type 0
 DoesArguments performs effect interactive None = HasNoRoom effect
 DoesArguments performs effect interactive (Some arguments) =

@@ -9,6 +9,7 @@ use Rattle.xxhsum_app.specs.declared.walk.Waiting.{Waiting}
 use Rattle.xxhsum_app.specs.declared.walk.Walked.{Walked}
 use Rattle.xxhsum_fs.specs.declared.folders.PathKind.{PathKind}
 use Rattle.xxhsum_fs.specs.declared.folders.PathKind.TheVariants.{File, Folder, Other, Unknown}
+use Rattle.xxhsum_options.specs.Exclude.{is_excluded}
 use Rattle.xxhsum_program.specs.Lines.{name_messages}
 use Rattle.xxhsum_program.specs.declared.outcome.Reason.TheVariants.{Unopened}
 
@@ -49,13 +50,25 @@ tree_of opening folders store = record {
   leads = λ name kind. folders.leads store name kind;
 }
 
+-- The name, unless one of these patterns matches it.
+abbrev pub kept_name : List (List ℕ) → List ℕ → List (List ℕ)
+kept_name patterns name = if is_excluded patterns name then [] else name ∷ []
+
+-- The tree from which the names in directories are removed that one of these patterns matches.
+abbrev pub without : List (List ℕ) → Tree → Tree
+without patterns tree = record tree {
+  holds = λ folder names. (all : List (List ℕ)) × tree.holds folder all × (names ≡ flat_map (kept_name patterns) all);
+}
+
 -- The name has this type. A link is followed if its name was given.
+abbrev pub HasKindBy : (List ℕ → Bool → Type 0) → (List ℕ → PathKind → Type 0) → List ℕ → Bool → PathKind → Type 0
+HasKindBy is_folder leads name false kind = leads name kind
+HasKindBy is_folder leads name true File = is_folder name false
+HasKindBy is_folder leads name true Folder = is_folder name true
+HasKindBy is_folder leads name true kind = ⊥
+
 abbrev pub HasKind : Tree → List ℕ → Bool → PathKind → Type 0
-HasKind tree name true File = tree.is_folder name false
-HasKind tree name true Folder = tree.is_folder name true
-HasKind tree name true Other = ⊥
-HasKind tree name true (Unknown why) = ⊥
-HasKind tree name false kind = tree.leads name kind
+HasKind tree = HasKindBy tree.is_folder tree.leads
 
 -- The name of a directory, with a slash appended unless it ends with one.
 abbrev pub with_slash : List ℕ → List ℕ
@@ -70,9 +83,7 @@ abbrev pub IsIn : Tree → List ℕ → Seen → Type 0
 IsIn tree name (Opened folder ordered) =
     (folder ≡ name) × ((names : List (List ℕ)) × tree.holds (with_slash name) names × IsInOrder names ordered)
 IsIn tree name (Closed folder why) = (folder ≡ name) × tree.closes (with_slash name) why
-IsIn tree name (Leaf file) = ⊥
-IsIn tree name (Passed other) = ⊥
-IsIn tree name (Lost other why) = ⊥
+IsIn tree name seen = ⊥
 
 -- Visiting the place has this result.
 abbrev pub IsSeen : Tree → Place → Seen → Type 0
@@ -84,11 +95,8 @@ IsSeen tree place (Lost name why) = (name ≡ place.0) × HasKind tree place.0 p
 
 -- The places that are visited next.
 abbrev pub below_of : Seen → List Place
-below_of (Leaf name) = []
-below_of (Passed name) = []
 below_of (Opened name names) = map (below (with_slash name) false) names
-below_of (Closed name why) = []
-below_of (Lost name why) = []
+below_of seen = []
 
 -- Visits of the first waiting place, one after another, have the results `trace`. The places `left` are still waiting.
 abbrev pub Visits : Tree → List Place → List Seen → List Place → Type 0
@@ -101,10 +109,7 @@ Visits tree (place ∷ places) (seen ∷ trace) left =
 
 abbrev pub file_of : Seen → List (List ℕ)
 file_of (Leaf name) = name ∷ []
-file_of (Passed name) = []
-file_of (Opened name names) = []
-file_of (Closed name why) = []
-file_of (Lost name why) = []
+file_of seen = []
 
 -- The files, in order.
 abbrev pub files_in : List Seen → List (List ℕ)
@@ -115,22 +120,18 @@ abbrev pub closed_text : List ℕ → Refusal → List (List ℕ)
 closed_text name why = name_messages name (Unread (Unopened why))
 
 abbrev pub closed_of : Seen → List (List ℕ)
-closed_of (Leaf name) = []
-closed_of (Passed name) = []
-closed_of (Opened name names) = []
 closed_of (Closed name why) = closed_text name why
 closed_of (Lost name why) = closed_text name why
+closed_of seen = []
 
 abbrev pub closed_in : List Seen → List (List ℕ)
 closed_in trace = flat_map closed_of trace
 
 -- The directory that can't be read, or the name that can't be looked up.
 abbrev pub lost_of : Seen → List (List ℕ)
-lost_of (Leaf name) = []
-lost_of (Passed name) = []
-lost_of (Opened name names) = []
 lost_of (Closed name why) = name ∷ []
 lost_of (Lost name why) = name ∷ []
+lost_of seen = []
 
 abbrev pub lost_in : List Seen → List (List ℕ)
 lost_in trace = flat_map lost_of trace

@@ -3,7 +3,8 @@
 ghost use Rattle.std.specs.Prelude.{◌≡◌, false, Bool, List, ℕ, Option, Some, Result, drop, map, IfSome};
 ghost use Rattle.xxhsum_app.specs.Prelude.{Stop, Streams};
 ghost use Rattle.xxhsum_app.specs.Run.{AuditsBelow, AuditsWords, DoesArguments, PerformsWords, WalksFolders, WalksNames, all_well};
-ghost use Rattle.xxhsum_app.specs.Walk.{tree_of};
+ghost use Rattle.xxhsum_app.specs.Walk.{tree_of, without};
+ghost use Rattle.xxhsum_options.specs.Exclude.{patterns_in};
 ghost use Rattle.xxhsum_options.specs.Options.{are_listed};
 ghost use Rattle.xxhsum_program.specs.Arguments.{AreArguments};
 ghost use Rattle.xxhsum_program.specs.Files.{files_of, input_of};
@@ -13,20 +14,20 @@ ghost use Rattle.xxhsum_program.specs.Run.{Ends};
 
 use crate::audit::audit_names;
 use crate::names::names_listed;
-use crate::walk::{files_below, has_none};
+use crate::walk::files_below;
 use std::alloc::{AllocError, Global};
 use xxh_io::streams::{Sink, Source};
 use xxhsum_fs::folders::Folders;
 use xxhsum_fs::store::Store;
 use xxhsum_options::name::default_kind;
-use xxhsum_options::options::{parse_args, words_behind};
+use xxhsum_options::options::{parse_args, words_before, words_behind};
 use xxhsum_output::output::Output;
 use xxhsum_program::arguments::{Arguments, all_arguments};
 use xxhsum_program::check::check_lists;
 use xxhsum_program::context::Context;
 use xxhsum_program::hash::hash_names;
 use xxhsum_program::process::{
-    Console, arguments_behind_name, end, eprint_answer, eprint_wrong, is_well, perform,
+    Console, arguments_behind_name, end, eprint_answer, eprint_wrong, has_none, is_well, perform,
     print_answer, program_of, requested_run, waits_for_terminal,
 };
 use xxhsum_program::progress_reader::ProgressDisplay;
@@ -58,7 +59,8 @@ where
     ensures { (args : Option (List (List ℕ))) × (done : Result Bool Stop)
         × (start met : Streams W E) × IfSome args (AreArguments A.holds A.ends arguments.now)
         × Releases (rules_of W.Sink W.held W.has_lost E.Sink) streams.old start
-        × DoesArguments (PerformsWords (tree_of S.Store S.Folders store.now)
+        × DoesArguments (λ patterns. PerformsWords
+        (without patterns (tree_of S.Store S.Folders store.now))
         (files_of S.Store S.File.Source store.now) (input_of R.Source console.input)
         (effect_of (rules_of W.Sink W.held W.has_lost E.Sink) start met done))
         (effect_of (rules_of W.Sink W.held W.has_lost E.Sink) start met done)
@@ -94,7 +96,8 @@ where
     requires written { IsWritten W.held W.has_lost streams.old.out }
     ensures { let effect = effect_of (rules_of W.Sink W.held W.has_lost E.Sink)
         streams.old streams.new result in
-        DoesArguments (PerformsWords (tree_of S.Store S.Folders store.now)
+        DoesArguments (λ patterns. PerformsWords
+        (without patterns (tree_of S.Store S.Folders store.now))
         (files_of S.Store S.File.Source store.now) (input_of R.Source console.input) effect)
         effect console.interactive (Some (map (λ argument. argument.items) args.now)) }
 {
@@ -125,12 +128,13 @@ where
         options,
         progress: ProgressDisplay::new(terminal, interactive, options),
     };
-    perform_words(&context, names, input, streams)
+    perform_words(&context, words_before(words, place), names, input, streams)
 }
 
 // Audits, hashes the files below folders, or hashes or checks the words or the names in lists of names.
 fn perform_words<S, T, R, W, E>(
     context: &Context<'_, S, T>,
+    flags: &[Vec<u8>],
     words: &[Vec<u8>],
     input: R,
     streams: &mut Streams<W, E>,
@@ -144,16 +148,17 @@ where
     requires reader { R.has_failed input ≡ false }
     requires writer { W.has_failed streams.old.out ≡ false }
     requires written { IsWritten W.held W.has_lost streams.old.out }
-    ensures { PerformsWords (tree_of S.Store S.Folders context.now.store.now)
+    ensures { let patterns = patterns_in (map (λ flag. flag.items) flags.now) in
+        PerformsWords (without patterns (tree_of S.Store S.Folders context.now.store.now))
         (files_of S.Store S.File.Source context.now.store.now) (input_of R.Source input)
         (effect_of (rules_of W.Sink W.held W.has_lost E.Sink) streams.old streams.new result)
         context.now.options (map (λ word. word.items) words.now) }
 {
     if context.options.audits {
-        return walk_audit(context, words, input, streams);
+        return walk_audit(context, flags, words, input, streams);
     }
     if context.options.walks {
-        return walk_folders(context, words, streams);
+        return walk_folders(context, flags, words, streams);
     }
     if context.options.names_from.are_listed() {
         return walk_names(context, words, input, streams);
@@ -164,6 +169,7 @@ where
 // Audits names against the list that the first argument names.
 fn walk_audit<S, T, R, W, E>(
     context: &Context<'_, S, T>,
+    flags: &[Vec<u8>],
     words: &[Vec<u8>],
     input: R,
     streams: &mut Streams<W, E>,
@@ -177,7 +183,8 @@ where
     requires reader { R.has_failed input ≡ false }
     requires writer { W.has_failed streams.old.out ≡ false }
     requires written { IsWritten W.held W.has_lost streams.old.out }
-    ensures { AuditsWords (tree_of S.Store S.Folders context.now.store.now)
+    ensures { let patterns = patterns_in (map (λ flag. flag.items) flags.now) in
+        AuditsWords (without patterns (tree_of S.Store S.Folders context.now.store.now))
         (files_of S.Store S.File.Source context.now.store.now) (input_of R.Source input)
         (effect_of (rules_of W.Sink W.held W.has_lost E.Sink) streams.old streams.new result)
         context.now.options (map (λ word. word.items) words.now) }
@@ -187,7 +194,7 @@ where
         return Ok(false);
     };
     if context.options.walks {
-        return audit_below(context, list, rest, streams);
+        return audit_below(context, flags, list, rest, streams);
     }
     if !context.options.names_from.are_listed() {
         return audit_names(context, &[], list, rest, streams);
@@ -202,18 +209,26 @@ where
 // the report.
 fn audit_below<S: Store + Folders, T: TimedSink, W: Output, E: Sink>(
     context: &Context<'_, S, T>,
+    flags: &[Vec<u8>],
     list: &[u8],
     names: &[Vec<u8>],
     streams: &mut Streams<W, E>,
 ) -> Result<bool, Stop>
     requires writer { W.has_failed streams.old.out ≡ false }
     requires written { IsWritten W.held W.has_lost streams.old.out }
-    ensures { AuditsBelow (tree_of S.Store S.Folders context.now.store.now)
+    ensures { let patterns = patterns_in (map (λ flag. flag.items) flags.now) in
+        AuditsBelow (without patterns (tree_of S.Store S.Folders context.now.store.now))
         (files_of S.Store S.File.Source context.now.store.now)
         (effect_of (rules_of W.Sink W.held W.has_lost E.Sink) streams.old streams.new result)
         context.now.options list.now (map (λ name. name.items) names.now) }
 {
-    match files_below(context.alloc, context.store, names, streams.messages()) {
+    match files_below(
+        context.alloc,
+        context.store,
+        flags,
+        names,
+        streams.messages(),
+    ) {
         Ok(walked) => audit_names(context, &walked.unread, list, &walked.files, streams),
         Err(stop) => Err(stop),
     }
@@ -222,17 +237,25 @@ fn audit_below<S: Store + Folders, T: TimedSink, W: Output, E: Sink>(
 // Hashes the files of the names and below their folders.
 fn walk_folders<S: Store + Folders, T: TimedSink, W: Output, E: Sink>(
     context: &Context<'_, S, T>,
+    flags: &[Vec<u8>],
     names: &[Vec<u8>],
     streams: &mut Streams<W, E>,
 ) -> Result<bool, Stop>
     requires writer { W.has_failed streams.old.out ≡ false }
     requires written { IsWritten W.held W.has_lost streams.old.out }
-    ensures { WalksFolders (tree_of S.Store S.Folders context.now.store.now)
+    ensures { let patterns = patterns_in (map (λ flag. flag.items) flags.now) in
+        WalksFolders (without patterns (tree_of S.Store S.Folders context.now.store.now))
         (files_of S.Store S.File.Source context.now.store.now)
         (effect_of (rules_of W.Sink W.held W.has_lost E.Sink) streams.old streams.new result)
         context.now.options (map (λ name. name.items) names.now) }
 {
-    match files_below(context.alloc, context.store, names, streams.messages()) {
+    match files_below(
+        context.alloc,
+        context.store,
+        flags,
+        names,
+        streams.messages(),
+    ) {
         Ok(walked) => {
             let done = hash_names(context, &walked.files, streams);
             all_well(has_none(&walked.unread), done)

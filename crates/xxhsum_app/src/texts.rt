@@ -16,6 +16,7 @@ use xxh_io::streams::{Sink, Source};
 use xxhsum_audit::read::read_text;
 use xxhsum_fs::store::Store;
 use xxhsum_program::context::Context;
+use xxhsum_program::process::has_none;
 use xxhsum_program::progress_reader::{ProgressDisplay, ProgressReader};
 use xxhsum_program::stderr::eprint_line;
 use xxhsum_program::stop::Stop;
@@ -124,12 +125,6 @@ pub fn texts_named<S: Store, T: TimedSink, R: Source + Drop, E: Sink>(
         return text_of_input(context.alloc, context.progress, input, err);
     }
     texts_of_files(context, names, err)
-}
-
-fn has_none(names: &[Vec<u8>]) -> bool
-    ensures { result ≡ has_none (map (λ name. name.items) names.now) }
-{
-    names.is_empty()
 }
 
 // Returns the text of the input as the only text.

@@ -1,11 +1,12 @@
 //! Finds the files below folders.
 
-ghost use Rattle.std.specs.Prelude.{◌≡◌, ◌++◌, ◌∷◌, [], false, IfOk, MatchResult, map};
-ghost use Rattle.xxhsum_program.specs.Command.{has_none};
+ghost use Rattle.std.specs.Prelude.{◌≡◌, ◌++◌, ◌∷◌, [], false, IfOk, List, MatchResult, map, ℕ};
+ghost use Rattle.std.specs.List.{flat_map};
 ghost use Rattle.xxhsum_program.specs.Eprints.{EprintsLines};
 ghost use Rattle.xxhsum_app.specs.Messages.{messages_of};
 ghost use Rattle.xxhsum_app.specs.WalkLaws.{FindsEachFile, FindsNoOther, FindsOnce};
-ghost use Rattle.xxhsum_app.specs.Walk.{HasKind, IsInOrder, IsSeen, SeesFolder, SeesOne, WalksAll, WalksSome, below, closed_text, place_of, state_of, tree_of, waiting_in, with_slash};
+ghost use Rattle.xxhsum_app.specs.Walk.{HasKind, IsInOrder, IsSeen, SeesFolder, SeesOne, WalksAll, WalksSome, below, closed_text, kept_name, place_of, state_of, tree_of, waiting_in, with_slash, without};
+ghost use Rattle.xxhsum_options.specs.Exclude.{patterns_in};
 
 use crate::names::add_name;
 use std::alloc::{AllocError, Global};
@@ -13,6 +14,7 @@ use xxh_io::refusal::Refusal;
 use xxh_io::streams::Sink;
 use xxhsum_fs::folders::{FolderError, Folders, PathKind};
 use xxhsum_fs::store::Store;
+use xxhsum_options::exclude::is_excluded;
 use xxhsum_program::hash::eprint_outcome;
 use xxhsum_program::outcome::{Outcome, Reason};
 use xxhsum_program::stop::Stop;
@@ -37,7 +39,8 @@ pub(crate) struct Waiting {
 /// their names.
 ///
 /// A given name that is a link is followed. Links in folders are skipped, and so is anything that is neither a file nor
-/// a folder. A folder that can't be read, and a name in a folder that can't be looked up, is reported.
+/// a folder, and each name that a pattern of `--exclude` in `flags` matches. A folder that can't be read, and a
+/// name in a folder that can't be looked up, is reported.
 ///
 /// # Errors
 ///
@@ -45,14 +48,17 @@ pub(crate) struct Waiting {
 pub fn files_below<S: Store + Folders, E: Sink>(
     alloc: Global,
     store: &S,
+    flags: &[Vec<u8>],
     names: &[Vec<u8>],
     err: &mut E,
 ) -> Result<Walked, Stop>
-    ensures { let given = map (λ name. name.items) names.now in MatchResult result
-        (λ walked. WalksAll (tree_of S.Store S.Folders store.now)
-        (messages_of E.Sink err.old err.new) given (map (λ file. file.items) walked.files.items)
+    ensures { let given = map (λ name. name.items) names.now in
+        let patterns = patterns_in (map (λ flag. flag.items) flags.now) in
+        let tree = without patterns (tree_of S.Store S.Folders store.now) in
+        MatchResult result (λ walked. WalksAll tree (messages_of E.Sink err.old err.new) given
+        (map (λ file. file.items) walked.files.items)
         (map (λ name. name.items) walked.unread.items))
-        (WalksSome (tree_of S.Store S.Folders store.now) (messages_of E.Sink err.old err.new) given) }
+        (WalksSome tree (messages_of E.Sink err.old err.new) given) }
 {
     let mut walked = Walked {
         files: Vec::new(alloc),
@@ -64,7 +70,7 @@ pub fn files_below<S: Store + Folders, E: Sink>(
         let Some(place) = waiting.pop() else {
             return Ok(walked);
         };
-        visit(alloc, store, place, &mut waiting, &mut walked, err)?;
+        visit(alloc, store, flags, place, &mut waiting, &mut walked, err)?;
     }
     Err(Stop::OutOfMemory)
 }
@@ -117,12 +123,14 @@ fn put_name(
 fn visit<S: Store + Folders, E: Sink>(
     alloc: Global,
     store: &S,
+    flags: &[Vec<u8>],
     place: Waiting,
     waiting: &mut Vec<Waiting>,
     walked: &mut Walked,
     err: &mut E,
 ) -> Result<(), Stop>
-    ensures { SeesOne (IsSeen (tree_of S.Store S.Folders store.now) (place_of place))
+    ensures { let patterns = patterns_in (map (λ flag. flag.items) flags.now) in SeesOne
+        (IsSeen (without patterns (tree_of S.Store S.Folders store.now)) (place_of place))
         (messages_of E.Sink err.old err.new) (state_of waiting.old.items walked.old)
         (state_of waiting.new.items walked.new) result }
 {
@@ -132,7 +140,7 @@ fn visit<S: Store + Folders, E: Sink>(
             add_file(name, &mut walked.files)?;
             Ok(())
         }
-        PathKind::Folder => open_folder(alloc, store, &name, waiting, walked, err),
+        PathKind::Folder => open_folder(alloc, store, flags, &name, waiting, walked, err),
         PathKind::Other => Ok(()),
         PathKind::Unknown(refusal) => add_unread(alloc, &name, refusal, &mut walked.unread, err),
     }
@@ -164,19 +172,22 @@ fn add_file(name: Vec<u8>, files: &mut Vec<Vec<u8>>) -> Result<(), AllocError>
 fn open_folder<S: Store + Folders, E: Sink>(
     alloc: Global,
     store: &S,
+    flags: &[Vec<u8>],
     name: &[u8],
     waiting: &mut Vec<Waiting>,
     walked: &mut Walked,
     err: &mut E,
 ) -> Result<(), Stop>
-    ensures { SeesFolder (tree_of S.Store S.Folders store.now) name.now
+    ensures { let patterns = patterns_in (map (λ flag. flag.items) flags.now) in SeesFolder
+        (without patterns (tree_of S.Store S.Folders store.now)) name.now
         (messages_of E.Sink err.old err.new) (state_of waiting.old.items walked.old)
         (state_of waiting.new.items walked.new) result }
 {
     let folder = with_slash(alloc, name)?;
     match store.names_in(alloc, &folder) {
         Ok(names) => {
-            let ordered = in_order(names);
+            let kept = kept(alloc, flags, &names)?;
+            let ordered = in_order(kept);
             put_names(alloc, &folder, false, &ordered, waiting)?;
             Ok(())
         }
@@ -185,6 +196,36 @@ fn open_folder<S: Store + Folders, E: Sink>(
             add_unread(alloc, name, refusal, &mut walked.unread, err)
         }
     }
+}
+
+// Returns the names that no pattern of these arguments matches.
+fn kept(alloc: Global, flags: &[Vec<u8>], names: &[Vec<u8>]) -> Result<Vec<Vec<u8>>, AllocError>
+    ensures { IfOk result (λ kept. map (λ name. name.items) kept.items
+        ≡ flat_map (kept_name (patterns_in (map (λ flag. flag.items) flags.now)))
+        (map (λ name. name.items) names.now)) }
+{
+    let mut kept = Vec::new(alloc);
+    for name in names {
+        add_kept(alloc, flags, name, &mut kept)?;
+    }
+    Ok(kept)
+}
+
+// Appends the name, unless a pattern of these arguments matches it.
+fn add_kept(
+    alloc: Global,
+    flags: &[Vec<u8>],
+    name: &[u8],
+    kept: &mut Vec<Vec<u8>>,
+) -> Result<(), AllocError>
+    ensures { IfOk result (λ _. map (λ name. name.items) kept.new.items
+        ≡ map (λ name. name.items) kept.old.items
+        ++ kept_name (patterns_in (map (λ flag. flag.items) flags.now)) name.now) }
+{
+    if is_excluded(flags, name) {
+        return Ok(());
+    }
+    add_name(alloc, name, kept)
 }
 
 // Returns the name of a folder with a slash at its end.
@@ -231,18 +272,14 @@ fn add_unread<E: Sink>(
     Ok(())
 }
 
-/// True if there is no name.
-pub fn has_none(names: &[Vec<u8>]) -> bool
-    ensures { result ≡ has_none (map (λ name. name.items) names.now) }
-{
-    names.is_empty()
-}
-
 /// Lemma: a walk finds exactly the files that the given names lead to through names in folders, if each folder could be
 /// read and the store gives one result per name. Below one given name no path is found twice, if each name occurs once
 /// in its folder and has no slash. `hash_names` then has one outcome for each.
 pub fn laws_of_walks<S: Store + Folders>()
-    ensures each { (store : S) → FindsEachFile (tree_of S.Store S.Folders store) }
-    ensures no_other { (store : S) → FindsNoOther (tree_of S.Store S.Folders store) }
-    ensures once { (store : S) → FindsOnce (tree_of S.Store S.Folders store) }
+    ensures each { (store : S) (patterns : List (List ℕ))
+        → FindsEachFile (without patterns (tree_of S.Store S.Folders store)) }
+    ensures no_other { (store : S) (patterns : List (List ℕ))
+        → FindsNoOther (without patterns (tree_of S.Store S.Folders store)) }
+    ensures once { (store : S) (patterns : List (List ℕ))
+        → FindsOnce (without patterns (tree_of S.Store S.Folders store)) }
 {}

@@ -28,14 +28,19 @@ letters-lack byte (c ∷ cs) other all =
       letters-lack byte cs other both.1,
     )
 
+-- Lemma: what holds of the words of each class holds of the words of a result.
+pub each-words : (P : List ℕ → Type 0) → P (codes "same") → P (codes "changed") → P (codes "moved from") → P (codes "copy of") → P (codes "new")
+    → P (codes "missing") → P (codes "unreadable") → (r : Remark) → P (told_words r)
+each-words P same changed moved copied new missing unreadable (Classed (Same l n)) = same
+each-words P same changed moved copied new missing unreadable (Classed (Changed l n)) = changed
+each-words P same changed moved copied new missing unreadable (Classed (Moved l n)) = moved
+each-words P same changed moved copied new missing unreadable (Classed (Copied o n)) = copied
+each-words P same changed moved copied new missing unreadable (Classed (New n)) = new
+each-words P same changed moved copied new missing unreadable (Classed (Missing l)) = missing
+each-words P same changed moved copied new missing unreadable (Unreadable n) = unreadable
+
 words-are : (r : Remark) → are_letters (told_words r) ≡ true
-words-are (Classed (Same l n)) = refl
-words-are (Classed (Changed l n)) = refl
-words-are (Classed (Moved l n)) = refl
-words-are (Classed (Copied o n)) = refl
-words-are (Classed (New n)) = refl
-words-are (Classed (Missing l)) = refl
-words-are (Unreadable n) = refl
+words-are = each-words (λ words. are_letters words ≡ true) refl refl refl refl refl refl refl
 
 -- The words that begin with these letters.
 abbrev words_at : ℕ → ℕ → List ℕ
@@ -53,13 +58,7 @@ first_words (c ∷ []) = []
 first_words (c ∷ d ∷ cs) = words_at c d
 
 words-first : (r : Remark) (t : List ℕ) → first_words (told_words r ++ t) ≡ told_words r
-words-first (Classed (Same l n)) t = refl
-words-first (Classed (Changed l n)) t = refl
-words-first (Classed (Moved l n)) t = refl
-words-first (Classed (Copied o n)) t = refl
-words-first (Classed (New n)) t = refl
-words-first (Classed (Missing l)) t = refl
-words-first (Unreadable n) t = refl
+words-first r t = each-words (λ words. first_words (words ++ t) ≡ words) refl refl refl refl refl refl refl r
 
 same-words : (a b : Remark) (t u : List ℕ) → told_words a ++ t ≡ told_words b ++ u → (told_words a ≡ told_words b) × (t ≡ u)
 same-words a b t u e =
@@ -82,13 +81,7 @@ last_words (c ∷ []) = []
 last_words (c ∷ d ∷ cs) = words_to c d
 
 words-last : (r : Remark) (t : List ℕ) → last_words (reverse (58 ∷ 32 ∷ told_words r) ++ t) ≡ told_words r
-words-last (Classed (Same l n)) t = refl
-words-last (Classed (Changed l n)) t = refl
-words-last (Classed (Moved l n)) t = refl
-words-last (Classed (Copied o n)) t = refl
-words-last (Classed (New n)) t = refl
-words-last (Classed (Missing l)) t = refl
-words-last (Unreadable n) t = refl
+words-last r t = each-words (λ words. last_words (reverse (58 ∷ 32 ∷ words) ++ t) ≡ words) refl refl refl refl refl refl refl r
 
 -- True if the words refer to another name.
 abbrev do_refer : List ℕ → Bool

@@ -99,7 +99,8 @@ fn line_text(
     words: &[u8],
     other: Option<&[u8]>,
 ) -> Result<Vec<u8>, AllocError>
-    ensures { IfOk result (λ text. text.items ≡ line_text name.now words.now (text_in other.entry)) }
+    ensures { IfOk result (λ text. text.items
+        ≡ line_text name.now words.now (text_in other.entry)) }
 {
     let mut line = Vec::new(alloc);
     if is_marked(name, other) {
@@ -175,7 +176,8 @@ fn escape_behind(before: u8, byte: &u8) -> &[u8]
 
 // Appends a second name, escaped, after a space.
 fn put_other(line: &mut Vec<u8>, other: Option<&[u8]>) -> Result<(), AllocError>
-    ensures { IfOk result (λ _. line.new.items ≡ line.old.items ++ other_escaped (text_in other.entry)) }
+    ensures { IfOk result (λ _. line.new.items
+        ≡ line.old.items ++ other_escaped (text_in other.entry)) }
 {
     if let Some(other) = other {
         line.extend_from_slice(b" ")?;

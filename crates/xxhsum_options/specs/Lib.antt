@@ -1,3 +1,4 @@
+pub mod Exclude
 pub mod Letters
 pub mod Name
 pub mod Number

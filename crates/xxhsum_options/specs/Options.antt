@@ -1,8 +1,9 @@
 -- The meaning of the arguments.
-use Rattle.std.specs.Prelude.{ℕ, ◌+◌, Bool, List, [], ◌∷◌, drop, length, true, false, bytes_eq, nat_le, nat_lt, ◌&&◌, ◌||◌, codes, if◌then◌else◌}
+use Rattle.std.specs.Prelude.{ℕ, ◌+◌, ◌-◌, ◌==◌, Bool, not, List, [], ◌∷◌, drop, length, true, false, bytes_eq, nat_le, nat_lt, ◌&&◌, ◌||◌, codes, if◌then◌else◌}
+use Rattle.std.specs.List.{list_any}
 use Rattle.xxh_io.specs.declared.kind.Kind.{Kind}
 use Rattle.xxhsum_options.specs.declared.options.ParsedArgs.{ParsedArgs}
-use Rattle.xxhsum_options.specs.declared.options.ParsedArgs.TheVariants.{Run, WrongOption, NulsInList, InputBesideNames, WalkBesideLists, WalkOfNothing}
+use Rattle.xxhsum_options.specs.declared.options.ParsedArgs.TheVariants.{Run, WrongOption, NulsInList, ExcludeWithoutWalk, SlashInPattern, InputBesideNames, WalkBesideLists, WalkOfNothing}
 use Rattle.xxhsum_options.specs.declared.options.NamesFrom.{NamesFrom}
 use Rattle.xxhsum_options.specs.declared.options.NamesFrom.TheVariants.{Words, Lines, Nuls}
 use Rattle.xxhsum_options.specs.declared.options.Options.{Options}
@@ -28,14 +29,24 @@ no_options kind = record {
   ends_in_nul = false;
   audits = false;
   walks = false;
+  excludes = false;
+  awaits_pattern = false;
   names_from = Words;
   takes_terminal = false;
 }
 
+-- The effect of a pattern of `--exclude` on these options. A pattern with a `/` is refused.
+abbrev pub pattern_step : Options → List ℕ → Step
+pattern_step options pattern =
+    if list_any (λ byte. byte == 47) pattern then Settles SlashInPattern
+    else Takes (record options { excludes = true; awaits_pattern = false })
+
 -- The effect of an argument on these options.
 abbrev pub word_step : Options → List ℕ → Step
 word_step options word =
-    if begins_with (codes "--") word then of_name ROWS options (drop 2 word)
+    if options.awaits_pattern then pattern_step options word
+    else if begins_with (codes "--exclude=") word then pattern_step options (drop 10 word)
+    else if begins_with (codes "--") word then of_name ROWS options (drop 2 word)
     else if bytes_eq word (codes "-") then Takes (record options { takes_terminal = true })
     else if begins_with (codes "-") word then letters_step 0 options (drop 1 word)
     else EndsBefore
@@ -64,11 +75,14 @@ abbrev pub leaves_input : Options → List (List ℕ) → Bool
 leaves_input options names =
     have_input names || (options.takes_terminal && nat_lt (lists_before options) (length names))
 
--- The run with these options. Its names are the arguments from index `at` on. `-z` is refused with `-c`. `-r` is
--- refused with `-c`, with lists of names, or without a name. `-` is refused with names.
+-- The run with these options. Its names are the arguments from index `at` on. `--exclude` is refused without a pattern or
+-- without `-r`. `-z` is refused with `-c`. `-r` is refused with `-c`, with lists of names, or without a name. `-` is
+-- refused with names.
 abbrev pub run_from : Options → ℕ → List (List ℕ) → ParsedArgs
 run_from options at names =
-    if options.ends_in_nul && options.checks then NulsInList
+    if options.awaits_pattern then WrongOption (at - 1)
+    else if options.ends_in_nul && options.checks then NulsInList
+    else if options.excludes && not options.walks then ExcludeWithoutWalk
     else if options.walks && (options.checks || are_listed options.names_from) then WalkBesideLists
     else if options.walks && nat_le (length names) (lists_audited options) then WalkOfNothing
     else if leaves_input options names then InputBesideNames

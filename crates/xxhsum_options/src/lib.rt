@@ -1,6 +1,7 @@
 //! Parses the arguments of `xxhsum`.
 #![tactic(auto)]
 
+pub mod exclude;
 mod letters;
 pub mod name;
 mod number;

@@ -1,7 +1,7 @@
 //! The arguments of the command line.
 
-ghost use Rattle.std.specs.Prelude.{◌≡◌, drop, map};
-ghost use Rattle.xxhsum_options.specs.Options.{have_input, leaves_input, lists_audited, lists_before, parsed_args, run_from, word_step};
+ghost use Rattle.std.specs.Prelude.{◌≡◌, drop, map, take};
+ghost use Rattle.xxhsum_options.specs.Options.{have_input, leaves_input, lists_audited, lists_before, parsed_args, pattern_step, run_from, word_step};
 
 use crate::letters::letters;
 use crate::table::name_step;
@@ -59,6 +59,10 @@ pub struct Options {
     pub audits: bool,
     /// `-r`, `--recursive`: the name of a directory means the files below it.
     pub walks: bool,
+    /// `--exclude`: names in directories that match a pattern are skipped.
+    pub excludes: bool,
+    /// True if the next argument is a pattern of `--exclude`.
+    pub awaits_pattern: bool,
     /// The source of the names.
     pub names_from: NamesFrom,
     /// `-`: standard input is read even if it is a terminal.
@@ -84,6 +88,10 @@ pub enum ParsedArgs {
     WalkBesideLists,
     /// An error: `-r` was given without a name.
     WalkOfNothing,
+    /// An error: `--exclude` was given without `-r`.
+    ExcludeWithoutWalk,
+    /// An error: a pattern of `--exclude` has a `/`, which no name in a directory has.
+    SlashInPattern,
     /// An error: `-` was given with names, or after `--`, so standard input is not read.
     InputBesideNames,
     /// An error: an option has a number that is too large.
@@ -123,6 +131,8 @@ pub fn parse_args(kind: Kind, words: &[Vec<u8>]) -> ParsedArgs
         ends_in_nul: false,
         audits: false,
         walks: false,
+        excludes: false,
+        awaits_pattern: false,
         names_from: NamesFrom::Words,
         takes_terminal: false,
     };
@@ -138,14 +148,22 @@ pub fn parse_args(kind: Kind, words: &[Vec<u8>]) -> ParsedArgs
     run_from(options, words.len(), words)
 }
 
-// Returns the run by these options, of the names from this index on. Refuses a NUL ending of a check, a walk
-// without a directory name, and standard input that would stay unread.
+// Returns the run by these options, of the names from this index on. Refuses `--exclude` without a pattern or a walk, a
+// NUL ending of a check, a walk without a directory name, and standard input that would stay unread.
 fn run_from(options: Options, names_from: usize, words: &[Vec<u8>]) -> ParsedArgs
     ensures { result ≡ run_from options names_from
         (drop names_from (map (λ word. word.items) words.now)) }
 {
+    if options.awaits_pattern {
+        return ParsedArgs::WrongOption {
+            at: names_from.saturating_sub(1),
+        };
+    }
     if options.ends_in_nul && options.checks {
         return ParsedArgs::NulsInList;
+    }
+    if options.excludes && !options.walks {
+        return ParsedArgs::ExcludeWithoutWalk;
     }
     if options.walks && (options.checks || options.names_from.are_listed()) {
         return ParsedArgs::WalkBesideLists;
@@ -160,6 +178,14 @@ fn run_from(options: Options, names_from: usize, words: &[Vec<u8>]) -> ParsedArg
         options,
         names_from,
     }
+}
+
+/// Returns the arguments before this index.
+pub fn words_before(words: &[Vec<u8>], place: usize) -> &[Vec<u8>]
+    ensures { map (λ word. word.items) result.now
+        ≡ take place (map (λ word. word.items) words.now) }
+{
+    &words[..place.min(words.len())]
 }
 
 /// Returns the arguments from this index on.
@@ -216,6 +242,12 @@ fn have_input(names: &[Vec<u8>]) -> bool
 fn word_step(word: &[u8], options: Options) -> Step
     ensures { result ≡ word_step options word.now }
 {
+    if options.awaits_pattern {
+        return pattern_step(word, options);
+    }
+    if let Some(pattern) = word.strip_prefix(b"--exclude=") {
+        return pattern_step(pattern, options);
+    }
     if let Some(name) = word.strip_prefix(b"--") {
         return name_step(name, options);
     }
@@ -227,4 +259,20 @@ fn word_step(word: &[u8], options: Options) -> Step
         Some(rest) => letters(rest, options),
         None => Step::EndsBefore,
     }
+}
+
+// Applies a pattern of `--exclude` to these options.
+fn pattern_step(pattern: &[u8], options: Options) -> Step
+    ensures { result ≡ pattern_step options pattern.now }
+{
+    for byte in pattern {
+        if *byte == b'/' {
+            return Step::Settles(ParsedArgs::SlashInPattern);
+        }
+    }
+    Step::Takes(Options {
+        excludes: true,
+        awaits_pattern: false,
+        ..options
+    })
 }

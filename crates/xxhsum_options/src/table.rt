@@ -14,6 +14,8 @@ pub enum Action {
     Audits,
     /// Directories are walked: their names mean the files below them.
     Walks,
+    /// The argument after it is a pattern: names in directories that match it are skipped.
+    Excludes,
     /// The names are read from lists of this form.
     Lists(NamesFrom),
     /// Lines are printed BSD-style.
@@ -45,7 +47,7 @@ pub const NO_LETTER: u8 = b'-';
 
 /// All options except those whose letter takes a number: the letter after `-`, the name after `--`, its effect, and its
 /// text in the help, which is empty if the help has no line for it.
-pub const ROWS: [(u8, &str, Action, &str); 20] = [
+pub const ROWS: [(u8, &str, Action, &str); 21] = [
     (
         b'c',
         "check",
@@ -63,6 +65,12 @@ pub const ROWS: [(u8, &str, Action, &str); 20] = [
         "recursive",
         Action::Walks,
         "     read the files below each directory, sorted by name;\n                      not with -c or lists of names",
+    ),
+    (
+        b'-',
+        "exclude",
+        Action::Excludes,
+        " PATTERN   with -r: skip files and directories whose name matches PATTERN:\n                      * any bytes, ? any byte, \\ quotes; not the FILEs themselves",
     ),
     (
         b'-',
@@ -210,6 +218,7 @@ fn action_step(action: Action, mut options: Options) -> Step
         Action::Checks => options.checks = true,
         Action::Audits => options.audits = true,
         Action::Walks => options.walks = true,
+        Action::Excludes => options.awaits_pattern = true,
         Action::Lists(from) => options.names_from = from,
         Action::Tags => options.is_tagged = true,
         Action::TurnsRound => options.is_little_endian = true,

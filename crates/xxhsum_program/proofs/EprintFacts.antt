@@ -6,10 +6,8 @@ use Rattle.xxh_io.specs.declared.digest_error.DigestError.TheVariants.{ReadFaile
 
 -- Lemma: `a ++ b` is reported if `a` is reported and the sink has failed.
 pub TakesOrFails-failed : {E : Type 0} (reporting : SinkRules E) (a b : List ℕ) (old new : E) → reporting.has_failed new ≡ true → TakesOrFails reporting a old new → TakesOrFails reporting (a ++ b) old new
-TakesOrFails-failed reporting a b old new failed (Ok x, done, only, is) = cc
 TakesOrFails-failed reporting a b old new failed (Err WriteFailed, done, only, is) = (Err WriteFailed, Refused-more reporting a b old new done, only, is)
-TakesOrFails-failed reporting a b old new failed (Err ReadFailed, done, only, is) = cc
-TakesOrFails-failed reporting a b old new failed (Err TooLong, done, only, is) = cc
+TakesOrFails-failed reporting a b old new failed (result, done, only, is) = cc
 
 failed-is : (result : Result (Unit {0}) DigestError) (failed : Bool) → IfErr result (λ e. e ≡ WriteFailed) → ((result ≡ Err WriteFailed) ↔ (failed ≡ true)) → failed ≡ is_err result
 failed-is (Ok x) true only says = let never = says.1 refl in cc

@@ -19,10 +19,8 @@ ignored false report clean = absurd (more-than-none report.unread clean.1)
 
 passed_over : {S F : Type 0} (files : Files S F) (name : List ℕ) (ignores : Bool) (reason : Reason)
     → HasNoValue files name reason → (ignores && has_no_file reason) ≡ true → IsPassedOver files ignores name
-passed_over files name false reason none is = let no : false ≡ true = is in cc
 passed_over files name true (Why.Unopened refusal) none is = (refl, refusal, none, is)
-passed_over files name true (Why.ReadFailed refusal) none is = let no : false ≡ true = is in cc
-passed_over files name true Why.TooLong none is = let no : false ≡ true = is in cc
+passed_over files name ignores reason none is = let no : false ≡ true = is in cc
 
 one-well : {S F : Type 0} (files : Files S F) (options : Options) (line : List ℕ) (report : Report) (finding : Finding)
     → IsFinding files options.is_little_endian line finding → Clean (count_one options.ignores_missing report finding)

@@ -9,10 +9,8 @@ use Rattle.xxhsum_program.proofs.OrderFacts.{emits-join, emits-line}
 -- Lemma: a line is refused if its first part is refused.
 pub line_more : {W T : Type 0} (writing : SinkRules W) (a b : List ℕ) (old new : W) (result : Result T Stop) (stop : Stop) → result ≡ Err stop
     → stop ≡ WriteFailed → PrintsLine {T = T} writing a old new (Err stop) → PrintsLine writing (a ++ b) old new result
-line_more writing a b old new (Ok x) stop is only prints = cc
 line_more writing a b old new (Err WriteFailed) WriteFailed is only prints = Refused-more writing a b old new prints
-line_more writing a b old new (Err OutOfMemory) WriteFailed is only prints = cc
-line_more writing a b old new (Err e) OutOfMemory is only prints = cc
+line_more writing a b old new result stop is only prints = cc
 
 -- Lemma: a line has the result of its second part if its first part was taken.
 pub line_join : {W T : Type 0} (writing : SinkRules W) (a b : List ℕ) (old mid new : W) (result : Result T Stop) → Took writing a old mid

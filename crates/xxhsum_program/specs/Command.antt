@@ -1,21 +1,23 @@
 -- The command of the arguments.
-use Rattle.std.specs.Prelude.{◌≡◌, ℕ, Bool, true, false, ◌&&◌, ◌||◌, not, List, [], ◌∷◌, ◌++◌, Option, Some, None, Result, Ok, Err, codes, drop, get_or, length, nat_eq, if◌then◌else◌}
+use Rattle.std.specs.Prelude.{◌≡◌, ℕ, Bool, true, false, ◌&&◌, ◌||◌, not, List, [], ◌∷◌, ◌++◌, Option, Some, None, Result, Ok, Err, codes, drop, get_or, length, nat_eq, take, if◌then◌else◌}
 use Rattle.xxhsum_program.specs.Prelude.{Eprints, Options, SinkRules, Stop, WriteFailed, concat, one_line}
 use Rattle.xxhsum_program.specs.declared.process.Interactive.{Interactive}
 use Rattle.xxhsum_program.specs.declared.usage.TheConstants.{ABOUT, BEFORE, BEHIND, NO_BENCHMARK, TITLE}
 use Rattle.xxhsum_program.specs.Arguments.{IsLastPart}
+use Rattle.xxhsum_options.specs.Exclude.{patterns_in}
 use Rattle.xxhsum_options.specs.Name.{kind_of_program}
 use Rattle.xxhsum_options.specs.Options.{are_listed, parsed_args}
 use Rattle.xxhsum_options.specs.Table.{rows_text}
 use Rattle.xxhsum_options.specs.declared.table.TheConstants.{ROWS}
 use Rattle.xxhsum_options.specs.declared.options.ParsedArgs.{ParsedArgs}
-use Rattle.xxhsum_options.specs.declared.options.ParsedArgs.TheVariants.{Run, Benchmark, Version, Help, WrongOption, NulsInList, WalkBesideLists, WalkOfNothing, InputBesideNames, NumberTooLarge}
+use Rattle.xxhsum_options.specs.declared.options.ParsedArgs.TheVariants.{Run, Benchmark, Version, Help, WrongOption, NulsInList, WalkBesideLists, WalkOfNothing, ExcludeWithoutWalk, SlashInPattern, InputBesideNames, NumberTooLarge}
 
--- A text that is printed, or reported as an error, or the options and the arguments of a run that reads files.
+-- A text that is printed, or reported as an error, or a run that reads files: its options, its patterns of `--exclude`,
+-- and its names.
 pub data Command : Type 0 where
   Tells : List ℕ → Command
   Answers : List ℕ → Command
-  Reads : Options → List (List ℕ) → Command
+  Reads : Options → List (List ℕ) → List (List ℕ) → Command
 
 -- The name of the program: the last part of its path, or `xxhsum` if there is no path.
 abbrev pub IsProgram : List (List ℕ) → List ℕ → Type 0
@@ -60,6 +62,8 @@ answer_text program words NulsInList = wrong_text (codes "Wrong parameters: '-z'
 answer_text program words WalkBesideLists =
     wrong_text (codes "Wrong parameters: '-r' with '-c' or lists of names") program
 answer_text program words WalkOfNothing = wrong_text (codes "Wrong parameters: '-r' without a FILE") program
+answer_text program words ExcludeWithoutWalk = wrong_text (codes "Wrong parameters: '--exclude' without '-r'") program
+answer_text program words SlashInPattern = wrong_text (codes "Wrong parameters: '/' in a pattern of '--exclude'") program
 answer_text program words InputBesideNames =
     codes "Error: '-' is standard input, which can't be read with files; for a file of that name use './-'.\n"
 answer_text program words (Run options place) = []
@@ -68,14 +72,7 @@ answer_text program words NumberTooLarge = codes "Error: numeric value too large
 abbrev pub is_well : ParsedArgs → Bool
 is_well Version = true
 is_well Help = true
-is_well Benchmark = false
-is_well (WrongOption at) = false
-is_well NulsInList = false
-is_well WalkBesideLists = false
-is_well WalkOfNothing = false
-is_well InputBesideNames = false
-is_well (Run options place) = false
-is_well NumberTooLarge = false
+is_well parsed = false
 
 -- The text is printed. If that fails, the run has failed.
 abbrev pub PrintsAnswer : {W : Type 0} → SinkRules W → List ℕ → W → W → Result Bool Stop → Type 0
@@ -85,26 +82,19 @@ PrintsAnswer writing text old new result =
 -- The options of a requested run, and the index of the argument that its names begin at.
 abbrev pub requested_run : ParsedArgs → Option (Options × ℕ)
 requested_run (Run options place) = Some (options, place)
-requested_run Version = None
-requested_run Help = None
-requested_run Benchmark = None
-requested_run (WrongOption at) = None
-requested_run NulsInList = None
-requested_run WalkBesideLists = None
-requested_run WalkOfNothing = None
-requested_run InputBesideNames = None
-requested_run NumberTooLarge = None
+requested_run parsed = None
 
--- The command of a run with these options and names.
-abbrev pub command_of_run : Interactive → List ℕ → Options → List (List ℕ) → Command
-command_of_run interactive program options names =
+-- The command of a run with these options, patterns and names.
+abbrev pub command_of_run : Interactive → List ℕ → Options → List (List ℕ) → List (List ℕ) → Command
+command_of_run interactive program options patterns names =
     if waits_for_terminal interactive options names then Answers (wrong_text (codes "Wrong parameters") program)
-    else Reads options names
+    else Reads options patterns names
 
 abbrev pub command_from : Interactive → List ℕ → List (List ℕ) → ParsedArgs → Option (Options × ℕ) → Command
 command_from interactive program words parsed None =
     let text = answer_text program words parsed in if is_well parsed then Tells text else Answers text
-command_from interactive program words parsed (Some run) = command_of_run interactive program run.0 (drop run.1 words)
+command_from interactive program words parsed (Some run) =
+    command_of_run interactive program run.0 (patterns_in (take run.1 words)) (drop run.1 words)
 
 -- The command of the arguments after the program's name.
 abbrev pub command_of : Interactive → List ℕ → List (List ℕ) → Command

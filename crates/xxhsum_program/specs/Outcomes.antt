@@ -60,14 +60,12 @@ error_text TooLong why = codes "the input file is too long"
 -- True if the reason is that there is no file of the name.
 abbrev pub has_no_file : Reason → Bool
 has_no_file (Why.Unopened refusal) = is_missing refusal
-has_no_file (Why.ReadFailed refusal) = false
-has_no_file Why.TooLong = false
+has_no_file reason = false
 
 -- True if the name has a value.
 abbrev pub is_digested : Outcome → Bool
 is_digested (Digested value) = true
-is_digested IsDirectory = false
-is_digested (Unread reason) = false
+is_digested outcome = false
 
 -- True if each name has a value.
 abbrev pub are_digested : List Outcome → Bool

@@ -37,14 +37,14 @@ PerformsAs files input effect options names =
 
 -- A text is printed and nothing is reported; or it is reported, nothing is printed, and the run fails; or files are read
 -- as `performs` states.
-abbrev pub DoesCommand : {W E : Type 0} → (Options → List (List ℕ) → Type 0) → Effect W E → Command → Type 0
+abbrev pub DoesCommand : {W E : Type 0} → (List (List ℕ) → Options → List (List ℕ) → Type 0) → Effect W E → Command → Type 0
 DoesCommand performs effect (Tells text) =
     PrintsAnswer effect.rules.writing text effect.old.out effect.new.out effect.result
     × (err_of effect.new ≡ err_of effect.old)
 DoesCommand performs effect (Answers text) =
     (effect.result ≡ Ok false) × (effect.new.out ≡ effect.old.out)
     × Eprints effect.rules.reporting text (err_of effect.old) (err_of effect.new)
-DoesCommand performs effect (Reads options words) = performs options words
+DoesCommand performs effect (Reads options patterns words) = performs patterns options words
 
 -- ---- the end
 
@@ -60,8 +60,7 @@ end_text (Err stop) = stop_text stop
 -- The exit status: 0 if all went well.
 abbrev pub status_of : Result Bool Stop → ℕ
 status_of (Ok true) = 0
-status_of (Ok false) = 1
-status_of (Err stop) = 1
+status_of done = 1
 
 -- No output is held at the end, unless some was lost, and then the reason to stop is reported, if there is one. If
 -- output was lost, the run has failed.

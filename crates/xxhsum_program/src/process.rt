@@ -59,15 +59,7 @@ pub fn requested_run(parsed: ParsedArgs) -> Option<(Options, usize)>
             options,
             names_from,
         } => Some((options, names_from)),
-        ParsedArgs::Benchmark
-        | ParsedArgs::Version
-        | ParsedArgs::Help
-        | ParsedArgs::WrongOption { .. }
-        | ParsedArgs::NulsInList
-        | ParsedArgs::WalkBesideLists
-        | ParsedArgs::WalkOfNothing
-        | ParsedArgs::InputBesideNames
-        | ParsedArgs::NumberTooLarge => None,
+        _ => None,
     }
 }
 
@@ -119,14 +111,7 @@ pub fn is_well(parsed: ParsedArgs) -> bool
 {
     match parsed {
         ParsedArgs::Version | ParsedArgs::Help => true,
-        ParsedArgs::Run { .. }
-        | ParsedArgs::Benchmark
-        | ParsedArgs::WrongOption { .. }
-        | ParsedArgs::NulsInList
-        | ParsedArgs::WalkBesideLists
-        | ParsedArgs::WalkOfNothing
-        | ParsedArgs::InputBesideNames
-        | ParsedArgs::NumberTooLarge => false,
+        _ => false,
     }
 }
 
@@ -187,6 +172,20 @@ pub fn eprint_answer<E: Sink>(program: &[u8], words: &[Vec<u8>], parsed: ParsedA
         }
         ParsedArgs::WalkOfNothing => {
             eprint_wrong(&[b"Wrong parameters: '-r' without a FILE"], program, err);
+        }
+        ParsedArgs::ExcludeWithoutWalk => {
+            eprint_wrong(
+                &[b"Wrong parameters: '--exclude' without '-r'"],
+                program,
+                err,
+            );
+        }
+        ParsedArgs::SlashInPattern => {
+            eprint_wrong(
+                &[b"Wrong parameters: '/' in a pattern of '--exclude'"],
+                program,
+                err,
+            );
         }
         ParsedArgs::InputBesideNames => {
             eprint(INPUT_BESIDE_NAMES, err);
@@ -269,7 +268,8 @@ where
     hash_names(context, names, streams)
 }
 
-fn has_none(names: &[Vec<u8>]) -> bool
+/// True if there is no name.
+pub fn has_none(names: &[Vec<u8>]) -> bool
     ensures { result ≡ has_none (map (λ name. name.items) names.now) }
 {
     names.is_empty()

@@ -45,6 +45,13 @@ const TABLE: &[(&str, &str)] = &[
     ("-r - a", "beside"),
     ("-r -c a", "lists"),
     ("--files-from -r a", "lists"),
+    ("-r --exclude x a", "64 walks excludes 3"),
+    ("--exclude=x -r a", "64 walks excludes 2"),
+    ("--exclude -r -r a", "64 walks excludes 3"),
+    ("-r --exclude", "wrong 1"),
+    ("--exclude x a", "unwalked"),
+    ("-r --exclude a/b c", "slash"),
+    ("--exclude=/ -Z", "slash"),
     ("-z -c a", "nuls"),
     ("-z --audit a", "64 nul audits 2"),
     ("-rz --audit a b", "64 nul audits walks 2"),
@@ -90,6 +97,8 @@ fn message(alloc: Global, parsed: ParsedArgs) -> Result<String, Fail> {
         ParsedArgs::NulsInList => return Ok(String::from_str(alloc, "nuls")?),
         ParsedArgs::WalkBesideLists => return Ok(String::from_str(alloc, "lists")?),
         ParsedArgs::WalkOfNothing => return Ok(String::from_str(alloc, "nothing")?),
+        ParsedArgs::ExcludeWithoutWalk => return Ok(String::from_str(alloc, "unwalked")?),
+        ParsedArgs::SlashInPattern => return Ok(String::from_str(alloc, "slash")?),
         ParsedArgs::InputBesideNames => return Ok(String::from_str(alloc, "beside")?),
         ParsedArgs::NumberTooLarge => return Ok(String::from_str(alloc, "large")?),
     };
@@ -113,6 +122,7 @@ fn message(alloc: Global, parsed: ParsedArgs) -> Result<String, Fail> {
         (options.ends_in_nul, "nul "),
         (options.audits, "audits "),
         (options.walks, "walks "),
+        (options.excludes, "excludes "),
         (options.takes_terminal, "terminal "),
     ] {
         if is_on {

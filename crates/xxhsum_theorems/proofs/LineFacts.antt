@@ -6,6 +6,7 @@ use Rattle.xxhsum_app.specs.Names.{ListNone}
 use Rattle.xxhsum_app.specs.ReadList.{IsFault, ListSaysNothing, SourceSaysNothing}
 use Rattle.xxhsum_app.specs.Report.{class_text, counts_text, is_same, remarks_of, report_text, shown_text, shown_texts}
 use Rattle.xxhsum_app.specs.Texts.{Breaks, HasNoText, LackText}
+use Rattle.xxhsum_audit.proofs.TextFacts.{each-words}
 use Rattle.xxhsum_audit.specs.Found.{Changed, Copied, Found, Missing, Moved, New, Same}
 use Rattle.xxhsum_audit.specs.Text.{Classed, HasNoNul, OtherLacks, Remark, RemarkIsOneLine, Unreadable, other_record, remark_text, told_name, told_other, told_words}
 use Rattle.xxhsum_audit.specs.declared.verdict.Class.{Class}
@@ -305,13 +306,7 @@ report_is_lines line options found unread ends =
 -- ---- records that end with a NUL
 
 words-plain : (r : Remark) → are_plain (told_words r) ≡ true
-words-plain (Classed (Same l n)) = refl
-words-plain (Classed (Changed l n)) = refl
-words-plain (Classed (Moved l n)) = refl
-words-plain (Classed (Copied o n)) = refl
-words-plain (Classed (New n)) = refl
-words-plain (Classed (Missing l)) = refl
-words-plain (Unreadable n) = refl
+words-plain = each-words (λ words. are_plain words ≡ true) refl refl refl refl refl refl refl
 
 other-records : (o : Option (List ℕ)) → OtherLacks 0 o → AreRecords (other_record o)
 other-records None lacks = no-part IsOneRecord

@@ -1,10 +1,11 @@
 -- Definitions of the main theorem.
-use Rattle.std.specs.Prelude.{◌≡◌, ◌⊎◌, ℕ, List, [], ◌∷◌, ◌++◌}
-use Rattle.xxhsum_program.specs.Prelude.{SinkRules, Took, one_line}
+use Rattle.std.specs.Prelude.{◌≡◌, ◌⊎◌, ℕ, false, List, [], ◌∷◌, ◌++◌}
+use Rattle.xxhsum_program.specs.Prelude.{AllByRecursion, SinkRules, Took, one_line}
 use Rattle.xxhsum_app.specs.Walk.{Tree, given}
 use Rattle.xxhsum_app.specs.WalkLaws.{IsSteady, LeadsTo}
 use Rattle.xxhsum_audit.specs.Item.{IsAmong}
 use Rattle.xxhsum_line.specs.Laws.{IsOneLine}
+use Rattle.xxhsum_options.specs.Exclude.{is_excluded}
 use Rattle.xxhsum_program.specs.Order.{Event, Printed, Reported}
 
 -- the event writes one line
@@ -26,13 +27,14 @@ PrintsBeginning {W} writing lines old new =
     (front rest : List ℕ) × (met : W) × (lines ≡ front ++ rest) × Took writing front old met
     × ((new ≡ met) ⊎ writing.refuses met new)
 
--- the names lead to the file through names in directories
-abbrev pub LeadTo : Tree → List (List ℕ) → List ℕ → Type 0
-LeadTo tree names file =
+-- the names lead to the file through names in directories, none of which a pattern matches
+abbrev pub LeadTo : List (List ℕ) → Tree → List (List ℕ) → List ℕ → Type 0
+LeadTo patterns tree names file =
     (name : List ℕ) × (behind : List (List ℕ)) × IsAmong names name × LeadsTo tree (given name) behind file
+    × AllByRecursion (λ one. is_excluded patterns one ≡ false) behind
 
 -- The names lead to each of these files. They lead to no other file, if no directory changes meanwhile.
-abbrev pub AreFilesBelow : Tree → List (List ℕ) → List (List ℕ) → Type 0
-AreFilesBelow tree names files =
-    ((file : List ℕ) → IsAmong files file → LeadTo tree names file)
-    × (IsSteady tree → (file : List ℕ) → LeadTo tree names file → IsAmong files file)
+abbrev pub AreFilesBelow : List (List ℕ) → Tree → List (List ℕ) → List (List ℕ) → Type 0
+AreFilesBelow patterns tree names files =
+    ((file : List ℕ) → IsAmong files file → LeadTo patterns tree names file)
+    × (IsSteady tree → (file : List ℕ) → LeadTo patterns tree names file → IsAmong files file)

@@ -20,7 +20,7 @@ ghost use Rattle.xxhsum_app.specs.Names.{ListNone};
 ghost use Rattle.xxhsum_app.specs.ReadList.{ListSaysNothing};
 ghost use Rattle.xxhsum_app.specs.Report.{remarks_of, report_text};
 ghost use Rattle.xxhsum_app.specs.Run.{WalksFolders};
-ghost use Rattle.xxhsum_app.specs.Walk.{tree_of};
+ghost use Rattle.xxhsum_app.specs.Walk.{tree_of, without};
 ghost use Rattle.xxhsum_theorems.specs.Headline.{AreFilesBelow, IsLineAtMost, IsLineOrMessage, PrintsBeginning};
 ghost use Rattle.xxhsum_theorems.specs.LineLaws.{AreLines, AreRecords, IsListLine, WritesLines};
 ghost use Rattle.xxhsum_line.specs.Entry.{Says};
@@ -76,19 +76,20 @@ pub fn each_name_once<S: Store, W: Sink, E: Sink>()
 {}
 
 /// A run over folders (`-r`) with status 0: standard output has one line for each of these files, in their order, and
-/// each has a value. The files are those that the given names lead to through the names in folders, and no others, if
-/// no folder changes meanwhile.
+/// each has a value. The files are those that the given names lead to through names in folders which no pattern of
+/// `--exclude` matches, and no others, if no folder changes meanwhile.
 pub fn each_file_below_once<S: Store + Folders, W: Sink, E: Sink>()
     ensures { (held : W → List ℕ) (has_lost : W → Bool) (store : S) (options : Options)
-        → (names : List (List ℕ)) (old new : Streams W E)
-        → WalksFolders (tree_of S.Store S.Folders store) (files_of S.Store S.File.Source store)
+        → (patterns names : List (List ℕ)) (old new : Streams W E)
+        → WalksFolders (without patterns (tree_of S.Store S.Folders store))
+        (files_of S.Store S.File.Source store)
         (effect_of (rules_of W.Sink held has_lost E.Sink) old new (Ok true)) options names
         → (files : List (List ℕ)) × (outcomes : List Outcome)
         × EachHas (Comes (files_of S.Store S.File.Source store) options.kind) files outcomes
         × (are_digested outcomes ≡ true)
         × (let events = lines_of (name_events options.kind (style_of options)) files outcomes in
         Took W.Sink (printed_of events) old.out new.out)
-        × AreFilesBelow (tree_of S.Store S.Folders store) names files }
+        × AreFilesBelow patterns (tree_of S.Store S.Folders store) names files }
 {
     laws_of_walks::<S>();
 }

@@ -3,6 +3,7 @@
 
 //! Parses the arguments of `xxhsum`.
 
+pub mod exclude;
 mod letters;
 pub mod name;
 mod number;

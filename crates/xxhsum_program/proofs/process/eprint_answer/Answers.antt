@@ -21,6 +21,12 @@ returns-in-WalkBesideLists g c = rw c.in-WalkBesideLists.is c.eprint_wrong-in-Wa
 pub returns-in-WalkOfNothing : goal.returns-in-WalkOfNothing
 returns-in-WalkOfNothing g c = rw c.in-WalkOfNothing.is c.eprint_wrong-in-WalkOfNothing.ensures
 
+pub returns-in-ExcludeWithoutWalk : goal.returns-in-ExcludeWithoutWalk
+returns-in-ExcludeWithoutWalk g c = rw c.in-ExcludeWithoutWalk.is c.eprint_wrong-in-ExcludeWithoutWalk.ensures
+
+pub returns-in-SlashInPattern : goal.returns-in-SlashInPattern
+returns-in-SlashInPattern g c = rw c.in-SlashInPattern.is c.eprint_wrong-in-SlashInPattern.ensures
+
 pub returns-in-InputBesideNames : goal.returns-in-InputBesideNames
 returns-in-InputBesideNames g c = rw c.in-InputBesideNames.is c.eprint.ensures
 

@@ -6,20 +6,20 @@
 use crate::rattle::prelude::Vec;
 use crate::programs::xxhsum_app::audit::audit_names;
 use crate::programs::xxhsum_app::names::names_listed;
-use crate::programs::xxhsum_app::walk::{files_below, has_none};
+use crate::programs::xxhsum_app::walk::files_below;
 use crate::rattle::{AllocError, Global};
 use crate::programs::xxh_io::streams::{Sink, Source};
 use crate::programs::xxhsum_fs::folders::Folders;
 use crate::programs::xxhsum_fs::store::Store;
 use crate::programs::xxhsum_options::name::default_kind;
-use crate::programs::xxhsum_options::options::{parse_args, words_behind};
+use crate::programs::xxhsum_options::options::{parse_args, words_before, words_behind};
 use crate::programs::xxhsum_output::output::Output;
 use crate::programs::xxhsum_program::arguments::{Arguments, all_arguments};
 use crate::programs::xxhsum_program::check::check_lists;
 use crate::programs::xxhsum_program::context::Context;
 use crate::programs::xxhsum_program::hash::hash_names;
 use crate::programs::xxhsum_program::process::{
-    Console, arguments_behind_name, end, eprint_answer, eprint_wrong, is_well, perform,
+    Console, arguments_behind_name, end, eprint_answer, eprint_wrong, has_none, is_well, perform,
     print_answer, program_of, requested_run, waits_for_terminal,
 };
 use crate::programs::xxhsum_program::progress_reader::ProgressDisplay;
@@ -97,12 +97,13 @@ where
         options,
         progress: ProgressDisplay::new(terminal, interactive, options),
     };
-    perform_words(&context, names, input, streams)
+    perform_words(&context, words_before(words, place), names, input, streams)
 }
 
 // Audits, hashes the files below folders, or hashes or checks the words or the names in lists of names.
 fn perform_words<S, T, R, W, E>(
     context: &Context<'_, S, T>,
+    flags: &[Vec<u8>],
     words: &[Vec<u8>],
     input: R,
     streams: &mut Streams<W, E>,
@@ -114,10 +115,10 @@ where
     W: Output,
     E: Sink, {
     if context.options.audits {
-        return walk_audit(context, words, input, streams);
+        return walk_audit(context, flags, words, input, streams);
     }
     if context.options.walks {
-        return walk_folders(context, words, streams);
+        return walk_folders(context, flags, words, streams);
     }
     if context.options.names_from.are_listed() {
         return walk_names(context, words, input, streams);
@@ -128,6 +129,7 @@ where
 // Audits names against the list that the first argument names.
 fn walk_audit<S, T, R, W, E>(
     context: &Context<'_, S, T>,
+    flags: &[Vec<u8>],
     words: &[Vec<u8>],
     input: R,
     streams: &mut Streams<W, E>,
@@ -143,7 +145,7 @@ where
         return Ok(false);
     };
     if context.options.walks {
-        return audit_below(context, list, rest, streams);
+        return audit_below(context, flags, list, rest, streams);
     }
     if !context.options.names_from.are_listed() {
         return audit_names(context, &[], list, rest, streams);
@@ -158,11 +160,18 @@ where
 // the report.
 fn audit_below<S: Store + Folders, T: TimedSink, W: Output, E: Sink>(
     context: &Context<'_, S, T>,
+    flags: &[Vec<u8>],
     list: &[u8],
     names: &[Vec<u8>],
     streams: &mut Streams<W, E>,
 ) -> Result<bool, Stop> {
-    match files_below(context.alloc, context.store, names, streams.messages()) {
+    match files_below(
+        context.alloc,
+        context.store,
+        flags,
+        names,
+        streams.messages(),
+    ) {
         Ok(walked) => audit_names(context, &walked.unread, list, &walked.files, streams),
         Err(stop) => Err(stop),
     }
@@ -171,10 +180,17 @@ fn audit_below<S: Store + Folders, T: TimedSink, W: Output, E: Sink>(
 // Hashes the files of the names and below their folders.
 fn walk_folders<S: Store + Folders, T: TimedSink, W: Output, E: Sink>(
     context: &Context<'_, S, T>,
+    flags: &[Vec<u8>],
     names: &[Vec<u8>],
     streams: &mut Streams<W, E>,
 ) -> Result<bool, Stop> {
-    match files_below(context.alloc, context.store, names, streams.messages()) {
+    match files_below(
+        context.alloc,
+        context.store,
+        flags,
+        names,
+        streams.messages(),
+    ) {
         Ok(walked) => {
             let done = hash_names(context, &walked.files, streams);
             all_well(has_none(&walked.unread), done)

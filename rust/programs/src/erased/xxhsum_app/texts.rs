@@ -10,6 +10,7 @@ use crate::programs::xxh_io::streams::{Sink, Source};
 use crate::programs::xxhsum_audit::read::read_text;
 use crate::programs::xxhsum_fs::store::Store;
 use crate::programs::xxhsum_program::context::Context;
+use crate::programs::xxhsum_program::process::has_none;
 use crate::programs::xxhsum_program::progress_reader::{ProgressDisplay, ProgressReader};
 use crate::programs::xxhsum_program::stderr::eprint_line;
 use crate::programs::xxhsum_program::stop::Stop;
@@ -98,10 +99,6 @@ pub fn texts_named<S: Store, T: TimedSink, R: Source , E: Sink>(
         return text_of_input(context.alloc, context.progress, input, err);
     }
     texts_of_files(context, names, err)
-}
-
-fn has_none(names: &[Vec<u8>]) -> bool {
-    names.is_empty()
 }
 
 // Returns the text of the input as the only text.

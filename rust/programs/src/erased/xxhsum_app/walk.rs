@@ -10,6 +10,7 @@ use crate::programs::xxh_io::refusal::Refusal;
 use crate::programs::xxh_io::streams::Sink;
 use crate::programs::xxhsum_fs::folders::{FolderError, Folders, PathKind};
 use crate::programs::xxhsum_fs::store::Store;
+use crate::programs::xxhsum_options::exclude::is_excluded;
 use crate::programs::xxhsum_program::hash::eprint_outcome;
 use crate::programs::xxhsum_program::outcome::{Outcome, Reason};
 use crate::programs::xxhsum_program::stop::Stop;
@@ -32,7 +33,8 @@ pub(crate) struct Waiting {
 /// their names.
 ///
 /// A given name that is a link is followed. Links in folders are skipped, and so is anything that is neither a file nor
-/// a folder. A folder that can't be read, and a name in a folder that can't be looked up, is reported.
+/// a folder, and each name that a pattern of `--exclude` in `flags` matches. A folder that can't be read, and a
+/// name in a folder that can't be looked up, is reported.
 ///
 /// # Errors
 ///
@@ -40,6 +42,7 @@ pub(crate) struct Waiting {
 pub fn files_below<S: Store + Folders, E: Sink>(
     alloc: Global,
     store: &S,
+    flags: &[Vec<u8>],
     names: &[Vec<u8>],
     err: &mut E,
 ) -> Result<Walked, Stop> {
@@ -53,7 +56,7 @@ pub fn files_below<S: Store + Folders, E: Sink>(
         let Some(place) = waiting.pop() else {
             return Ok(walked);
         };
-        visit(alloc, store, place, &mut waiting, &mut walked, err)?;
+        visit(alloc, store, flags, place, &mut waiting, &mut walked, err)?;
     }
     Err(Stop::OutOfMemory)
 }
@@ -99,6 +102,7 @@ fn put_name(
 fn visit<S: Store + Folders, E: Sink>(
     alloc: Global,
     store: &S,
+    flags: &[Vec<u8>],
     place: Waiting,
     waiting: &mut Vec<Waiting>,
     walked: &mut Walked,
@@ -110,7 +114,7 @@ fn visit<S: Store + Folders, E: Sink>(
             add_file(name, &mut walked.files)?;
             Ok(())
         }
-        PathKind::Folder => open_folder(alloc, store, &name, waiting, walked, err),
+        PathKind::Folder => open_folder(alloc, store, flags, &name, waiting, walked, err),
         PathKind::Other => Ok(()),
         PathKind::Unknown(refusal) => add_unread(alloc, &name, refusal, &mut walked.unread, err),
     }
@@ -137,6 +141,7 @@ fn add_file(name: Vec<u8>, files: &mut Vec<Vec<u8>>) -> Result<(), AllocError> {
 fn open_folder<S: Store + Folders, E: Sink>(
     alloc: Global,
     store: &S,
+    flags: &[Vec<u8>],
     name: &[u8],
     waiting: &mut Vec<Waiting>,
     walked: &mut Walked,
@@ -145,7 +150,8 @@ fn open_folder<S: Store + Folders, E: Sink>(
     let folder = with_slash(alloc, name)?;
     match store.names_in(alloc, &folder) {
         Ok(names) => {
-            let ordered = in_order(names);
+            let kept = kept(alloc, flags, &names)?;
+            let ordered = in_order(kept);
             put_names(alloc, &folder, false, &ordered, waiting)?;
             Ok(())
         }
@@ -154,6 +160,28 @@ fn open_folder<S: Store + Folders, E: Sink>(
             add_unread(alloc, name, refusal, &mut walked.unread, err)
         }
     }
+}
+
+// Returns the names that no pattern of these arguments matches.
+fn kept(alloc: Global, flags: &[Vec<u8>], names: &[Vec<u8>]) -> Result<Vec<Vec<u8>>, AllocError> {
+    let mut kept = Vec::new(alloc);
+    for name in names {
+        add_kept(alloc, flags, name, &mut kept)?;
+    }
+    Ok(kept)
+}
+
+// Appends the name, unless a pattern of these arguments matches it.
+fn add_kept(
+    alloc: Global,
+    flags: &[Vec<u8>],
+    name: &[u8],
+    kept: &mut Vec<Vec<u8>>,
+) -> Result<(), AllocError> {
+    if is_excluded(flags, name) {
+        return Ok(());
+    }
+    add_name(alloc, name, kept)
 }
 
 // Returns the name of a folder with a slash at its end.
@@ -187,11 +215,6 @@ fn add_unread<E: Sink>(
     };
     eprint_outcome(name, &outcome, err);
     Ok(())
-}
-
-/// True if there is no name.
-pub fn has_none(names: &[Vec<u8>]) -> bool {
-    names.is_empty()
 }
 
 /// Lemma: a walk finds exactly the files that the given names lead to through names in folders, if each folder could be

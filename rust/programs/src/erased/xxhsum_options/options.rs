@@ -56,6 +56,10 @@ pub struct Options {
     pub audits: bool,
     /// `-r`, `--recursive`: the name of a directory means the files below it.
     pub walks: bool,
+    /// `--exclude`: names in directories that match a pattern are skipped.
+    pub excludes: bool,
+    /// True if the next argument is a pattern of `--exclude`.
+    pub awaits_pattern: bool,
     /// The source of the names.
     pub names_from: NamesFrom,
     /// `-`: standard input is read even if it is a terminal.
@@ -81,6 +85,10 @@ pub enum ParsedArgs {
     WalkBesideLists,
     /// An error: `-r` was given without a name.
     WalkOfNothing,
+    /// An error: `--exclude` was given without `-r`.
+    ExcludeWithoutWalk,
+    /// An error: a pattern of `--exclude` has a `/`, which no name in a directory has.
+    SlashInPattern,
     /// An error: `-` was given with names, or after `--`, so standard input is not read.
     InputBesideNames,
     /// An error: an option has a number that is too large.
@@ -117,6 +125,8 @@ pub fn parse_args(kind: Kind, words: &[Vec<u8>]) -> ParsedArgs {
         ends_in_nul: false,
         audits: false,
         walks: false,
+        excludes: false,
+        awaits_pattern: false,
         names_from: NamesFrom::Words,
         takes_terminal: false,
     };
@@ -132,11 +142,19 @@ pub fn parse_args(kind: Kind, words: &[Vec<u8>]) -> ParsedArgs {
     run_from(options, words.len(), words)
 }
 
-// Returns the run by these options, of the names from this index on. Refuses a NUL ending of a check, a walk
-// without a directory name, and standard input that would stay unread.
+// Returns the run by these options, of the names from this index on. Refuses `--exclude` without a pattern or a walk, a
+// NUL ending of a check, a walk without a directory name, and standard input that would stay unread.
 fn run_from(options: Options, names_from: usize, words: &[Vec<u8>]) -> ParsedArgs {
+    if options.awaits_pattern {
+        return ParsedArgs::WrongOption {
+            at: names_from.saturating_sub(1),
+        };
+    }
     if options.ends_in_nul && options.checks {
         return ParsedArgs::NulsInList;
+    }
+    if options.excludes && !options.walks {
+        return ParsedArgs::ExcludeWithoutWalk;
     }
     if options.walks && (options.checks || options.names_from.are_listed()) {
         return ParsedArgs::WalkBesideLists;
@@ -151,6 +169,11 @@ fn run_from(options: Options, names_from: usize, words: &[Vec<u8>]) -> ParsedArg
         options,
         names_from,
     }
+}
+
+/// Returns the arguments before this index.
+pub fn words_before(words: &[Vec<u8>], place: usize) -> &[Vec<u8>] {
+    &words[..place.min(words.len())]
 }
 
 /// Returns the arguments from this index on.
@@ -193,6 +216,12 @@ fn have_input(names: &[Vec<u8>]) -> bool {
 
 // Applies the argument to these options.
 fn word_step(word: &[u8], options: Options) -> Step {
+    if options.awaits_pattern {
+        return pattern_step(word, options);
+    }
+    if let Some(pattern) = word.strip_prefix(b"--exclude=") {
+        return pattern_step(pattern, options);
+    }
     if let Some(name) = word.strip_prefix(b"--") {
         return name_step(name, options);
     }
@@ -204,4 +233,18 @@ fn word_step(word: &[u8], options: Options) -> Step {
         Some(rest) => letters(rest, options),
         None => Step::EndsBefore,
     }
+}
+
+// Applies a pattern of `--exclude` to these options.
+fn pattern_step(pattern: &[u8], options: Options) -> Step {
+    for byte in pattern {
+        if *byte == b'/' {
+            return Step::Settles(ParsedArgs::SlashInPattern);
+        }
+    }
+    Step::Takes(Options {
+        excludes: true,
+        awaits_pattern: false,
+        ..options
+    })
 }

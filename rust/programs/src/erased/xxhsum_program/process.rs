@@ -52,15 +52,7 @@ pub fn requested_run(parsed: ParsedArgs) -> Option<(Options, usize)> {
             options,
             names_from,
         } => Some((options, names_from)),
-        ParsedArgs::Benchmark
-        | ParsedArgs::Version
-        | ParsedArgs::Help
-        | ParsedArgs::WrongOption { .. }
-        | ParsedArgs::NulsInList
-        | ParsedArgs::WalkBesideLists
-        | ParsedArgs::WalkOfNothing
-        | ParsedArgs::InputBesideNames
-        | ParsedArgs::NumberTooLarge => None,
+        _ => None,
     }
 }
 
@@ -99,14 +91,7 @@ pub fn waits_for_terminal(interactive: Interactive, options: Options, names: &[V
 pub fn is_well(parsed: ParsedArgs) -> bool {
     match parsed {
         ParsedArgs::Version | ParsedArgs::Help => true,
-        ParsedArgs::Run { .. }
-        | ParsedArgs::Benchmark
-        | ParsedArgs::WrongOption { .. }
-        | ParsedArgs::NulsInList
-        | ParsedArgs::WalkBesideLists
-        | ParsedArgs::WalkOfNothing
-        | ParsedArgs::InputBesideNames
-        | ParsedArgs::NumberTooLarge => false,
+        _ => false,
     }
 }
 
@@ -160,6 +145,20 @@ pub fn eprint_answer<E: Sink>(program: &[u8], words: &[Vec<u8>], parsed: ParsedA
         }
         ParsedArgs::WalkOfNothing => {
             eprint_wrong(&[b"Wrong parameters: '-r' without a FILE"], program, err);
+        }
+        ParsedArgs::ExcludeWithoutWalk => {
+            eprint_wrong(
+                &[b"Wrong parameters: '--exclude' without '-r'"],
+                program,
+                err,
+            );
+        }
+        ParsedArgs::SlashInPattern => {
+            eprint_wrong(
+                &[b"Wrong parameters: '/' in a pattern of '--exclude'"],
+                program,
+                err,
+            );
         }
         ParsedArgs::InputBesideNames => {
             eprint(INPUT_BESIDE_NAMES, err);
@@ -228,7 +227,8 @@ where
     hash_names(context, names, streams)
 }
 
-fn has_none(names: &[Vec<u8>]) -> bool {
+/// True if there is no name.
+pub fn has_none(names: &[Vec<u8>]) -> bool {
     names.is_empty()
 }
 
