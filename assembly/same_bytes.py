@@ -137,7 +137,7 @@ class Object:
                     [*defined, *undefined, *for_linker, f'the stack may be executed: {stack != [0]}'])
 
 
-def is_global(symbol):
+def is_global(symbol: Symbol) -> bool:
     return symbol.info >> 4 != 0
 
 
@@ -193,12 +193,12 @@ def differences(proved, ours, describe):
             yield f'{name}: {describe(proved[name], ours[name])}'
 
 
-def compare(proved, ours):
+def compare(proved: str, ours: str) -> list[str]:
     """The lines for two objects."""
     return list(differences(Object(proved).parts(), Object(ours).parts(), difference))
 
 
-def compare_sums(path, ours):
+def compare_sums(path: str, ours: str) -> list[str]:
     """The lines for the sums of an object, and an object."""
     return list(differences(read_sums(path), sums(Object(ours)), lambda *_: 'other than what was proved'))
 
