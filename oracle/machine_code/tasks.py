@@ -170,9 +170,9 @@ def any_xxh3(make, what, part, proof_class):
 
 
 def sample(what, asked, some):
-    """Returns some of the proofs, or one for each function that takes stripes."""
+    """Returns some of the proofs and the last one, or one for each function that takes stripes."""
     each = {ask.args[1][0].name: ask for ask in asked if hasattr(ask, "args")} if what == xxh3_updates.STRIPES else {}
-    return [*each.values()] or asked[::len(asked) // some]
+    return [*each.values()] or [*asked[::len(asked) // some], asked[-1]]
 
 
 def few_streams(lengths, hash_name, variant, secret):
