@@ -113,13 +113,12 @@ line-parts (c ∷ []) is = let last : c ≡ 10 = grind (arith, nat_tests, is) in
 line-parts (c ∷ d ∷ ds) is =
     let both = and_parts (nat_le 32 c) (ends_line (d ∷ ds)) is in
     let rest = line-parts (d ∷ ds) both.1 in
-    (c ∷ rest.0, ap (λ (l : List ℕ). c ∷ l) rest.1, (λ e. let no : ⊥ = grind (arith, nat_tests, both.0, e) in no), rest.2)
+    (c ∷ rest.0, ap (λ (l : List ℕ). c ∷ l) rest.1, ((λ e. let no : ⊥ = grind (arith, nat_tests, both.0, e) in no), rest.2))
 
 -- Lemma: a number with such a text behind it is one line.
 number-line : (n : ℕ) (text : List ℕ) → ends_line text ≡ true → IsOneLine (decimal n ++ text)
 number-line n text is =
-    let parts = line-parts text is in
-    (
+    let parts = line-parts text is in (
       decimal n ++ parts.0,
       ap (λ l. decimal n ++ l) parts.1 ∙ sym (append_assoc (decimal n) parts.0 (10 ∷ [])),
       lacks_both 10 (decimal n) parts.0 (decimal-lacks 10 (omega arith) n) parts.2,
