@@ -29,48 +29,36 @@ const NO_SEED: &str = "0";
 /// Parses the arguments after the program's name.
 pub fn parse<'w>(words: &[&'w str]) -> Result<Command<'w>, Fault> {
     match words {
-        [name, word] => pair(name, word),
-        [name, kind, last] => with_last(name, kind, last),
-        _ => Err(Fault::Usage),
-    }
-}
-
-fn pair(name: &str, word: &str) -> Result<Command<'static>, Fault> {
-    match name {
-        "blocks" => blocks(word),
-        _ => seeded(name, word, NO_SEED),
-    }
-}
-
-fn with_last<'w>(name: &str, kind: &str, last: &'w str) -> Result<Command<'w>, Fault> {
-    match name {
-        "resume" => resume(kind, last),
-        _ => seeded(name, kind, last),
-    }
-}
-
-fn seeded(name: &str, kind: &str, seed: &str) -> Result<Command<'static>, Fault> {
-    match name {
-        "hash" => hash(kind, seed),
-        "save" => save(kind, seed),
+        [name, word] => match *name {
+            "hash" => hash(word, NO_SEED),
+            "save" => save(word, NO_SEED),
+            "blocks" => blocks(word),
+            _ => Err(Fault::Usage),
+        },
+        [name, kind, last] => match *name {
+            "hash" => hash(kind, last),
+            "save" => save(kind, last),
+            "resume" => resume(kind, last),
+            _ => Err(Fault::Usage),
+        },
         _ => Err(Fault::Usage),
     }
 }
 
 fn hash(kind: &str, seed: &str) -> Result<Command<'static>, Fault> {
     let kind = kind_from(kind)?;
-    let seed = seed_from(seed, kind.most_seed())?;
+    let seed = number_from(seed, kind.most_seed(), Fault::BadSeed)?;
     Ok(Command::Hash { kind, seed })
 }
 
 fn save(kind: &str, seed: &str) -> Result<Command<'static>, Fault> {
     match saved_kind_from(kind)? {
         SavedKind::X32 => {
-            let seed = seed_from(seed, u64::from(u32::MAX))?;
+            let seed = number_from(seed, u64::from(u32::MAX), Fault::BadSeed)?;
             Ok(Command::Save32 { seed: seed as u32 })
         }
         SavedKind::X64 => {
-            let seed = seed_from(seed, u64::MAX)?;
+            let seed = number_from(seed, u64::MAX, Fault::BadSeed)?;
             Ok(Command::Save64 { seed })
         }
     }
@@ -108,11 +96,6 @@ fn saved_kind_from(name: &str) -> Result<SavedKind, Fault> {
         "64" => Ok(SavedKind::X64),
         _ => Err(Fault::Usage),
     }
-}
-
-// Parses a seed in decimal digits, up to the maximum of its algorithm.
-fn seed_from(word: &str, most: u64) -> Result<u64, Fault> {
-    number_from(word, most, Fault::BadSeed)
 }
 
 // Parses a number in decimal digits, up to the maximum, or returns this error.

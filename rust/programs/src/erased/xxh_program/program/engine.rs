@@ -3,33 +3,15 @@
 
 //! The digest engine: reads a source to its end through a hasher, and writes the value as a line.
 
-use crate::programs::xxh_program::program::feed::Feed;
+use crate::programs::xxh_program::program::feed::{Feed, read_all};
 use crate::programs::xxh_program::program::value::value_of_source;
 use crate::programs::xxh_io::digest_error::DigestError;
 use crate::programs::xxh_io::kind::Kind;
-use crate::programs::xxh_io::streams::{Failed, Sink, Source};
+use crate::programs::xxh_io::streams::{Sink, Source};
 use crate::programs::xxh_io::write::write_line;
 
 // Size of the read buffer of the public calls.
 pub(crate) const OFFERED: usize = 4096;
-
-// Feeds the hasher what is read, until a read returns nothing. Each read is offered the whole buffer.
-pub(crate) fn read_all<H: Feed, R: Source>(
-    hasher: H,
-    max_reads: u64,
-    r: &mut R,
-    buf: &mut [u8],
-) -> Result<H, DigestError> {
-    let mut hasher = hasher;
-    for turn in 0..max_reads {
-        match r.read(buf) {
-            Ok(0) => return Ok(hasher),
-            Ok(count) => hasher.feed(&buf[..count]),
-            Err(Failed) => return Err(DigestError::ReadFailed),
-        }
-    }
-    Err(DigestError::TooLong)
-}
 
 // Feeds the hasher what is read, and writes the line of its value.
 pub(crate) fn digest_on<H: Feed, R: Source, W: Sink, const READ: usize>(

@@ -3,8 +3,8 @@
 
 //! XXH64 in the digest engine.
 
-use crate::programs::xxh_program::program::engine::{OFFERED, digest_on, read_all};
-use crate::programs::xxh_program::program::feed::Feed;
+use crate::programs::xxh_program::program::engine::{OFFERED, digest_on};
+use crate::programs::xxh_program::program::feed::{Feed, read_all};
 use crate::programs::twox_hash::XxHash64;
 use crate::programs::xxh_io::digest_error::DigestError;
 use crate::programs::xxh_io::streams::{Sink, Source};

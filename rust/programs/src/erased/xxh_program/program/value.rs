@@ -3,8 +3,7 @@
 
 //! The hash of a source's bytes, by algorithm.
 
-use crate::programs::xxh_program::program::engine::read_all;
-use crate::programs::xxh_program::program::feed::Feed;
+use crate::programs::xxh_program::program::feed::{Feed, read_all};
 use crate::programs::xxh_program::program::hasher_3_64::with_seed_64;
 use crate::programs::xxh_program::program::hasher_3_128::with_seed_128;
 use crate::programs::twox_hash::{XxHash32, XxHash64};
