@@ -396,8 +396,9 @@ def mutants_of_verifier_that_differ():
     count = {name: int(number) for name, number in zip(names[2:], numbers[2:])}
     detected = sum(count[kind] for kind in ('value', 'processor', 'right', 'planted'))
     expected = (
-        f"{count['tested']:,} of its {count['mutants']:,} mutants: {detected:,} are detected, {count['reason']:,} have a "
-        f"reason, {count['unexplained']:,} are unexplained, of these {count['of decisions']:,} in comparisons and conditions"
+        f"{count['tested']:,} of its {count['mutants']:,} mutants: {detected:,} are detected, "
+        f"{count['reason']:,} have a reason, {count['unexplained']:,} are unexplained, "
+        f"of these {count['of decisions']:,} in comparisons and conditions"
     )
     if expected not in text_of('docs/VERIFICATION.md'):
         yield f'docs/VERIFICATION.md does not have that oracle/mutate tried {expected}'

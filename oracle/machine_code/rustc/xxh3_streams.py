@@ -27,7 +27,7 @@ class RawStreams(CargoUpdates):
         self.hash_name = f"3-{width}"
         self.way = next(way for way in ways(self.hash_name) if way.prefix == PREFIX.format(f"3_{width}"))
         first = self.place_of_core(cpu)
-        fields = {name: first + at for name, at in vars(layouts.CORE).items() if name not in ("size", "room")}
+        fields = {name: first + at for name, at in vars(layouts.CORE).items() if name not in ("size", "capacity")}
         self.at, self.span = types.SimpleNamespace(**{**vars(layouts.CORE), **fields}), range(first, first + layouts.CORE.size)
         super().__init__(cpu)
 
