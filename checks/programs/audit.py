@@ -5,12 +5,14 @@
 It creates a tree of files, with names of every byte that UTF-8 has, and their list; then it changes, moves, copies,
 swaps, removes and adds some. The audit must report what a slow one reports, which compares the files' bytes: the class
 of each line and each name, in the same order, and the counts. It must report the same for the list's lines in another
-order, in the order of the arguments, for a list from three jobs, and for one whose names begin with `./`. Bad input
+order, in the order of the arguments, for a list from three jobs, and for one whose names begin with `./`. Python's
+`json` must read the same results, with their digests, from each object of `--format=json`. Bad input
 must be reported, and nothing else. Seven planted reports, for example one that reports a moved file as new, must be
 detected. The last line is "N passed, M failed"; the status is 1 if one failed. It prints how much memory the audit
 took per line."""
 import collections
 import contextlib
+import json
 import os
 import random
 import re
@@ -33,6 +35,10 @@ PLANTED = {
     'two names in another order': lambda text: re.sub(rb'([^\n]*\n)([^\n]*\n)([^\n]*\n)\Z', rb'\2\1\3', text),
     'a copy of itself': lambda text: re.sub(rb'(?m)^([^\n\\]*): copy of .*$', rb'\1: copy of \1', text, count=1),
 }
+
+
+# States in JSON that differ from the words.
+STATES = {b'moved from': 'moved', b'copy of': 'copied'}
 
 
 def peak_of(args):
@@ -92,8 +98,9 @@ def line_of(name, word, other=None):
     )
 
 
-def slow_audit(before, after):
-    """The report of the audit: names in both lists by name, then the others by name, and the count of each class."""
+def slow_results(before, after):
+    """The results of the audit, in order: names in both lists by name, then the others by name; and the count of each
+    class."""
     both: list[tuple[bytes, ...]] = []
     others: list[tuple[bytes, ...]] = []
     counts, stayed = collections.Counter[str](), dict[bytes, bytes]()
@@ -122,9 +129,27 @@ def slow_audit(before, after):
         for old in olds[len(news) :]:
             others.append((old, b'missing'))
             counts['missing'] += 1
+    return [*sorted(both), *sorted(others)], counts
+
+
+def slow_audit(before, after):
+    """The report of the audit, which ends with the counts."""
+    results, counts = slow_results(before, after)
     classes = ('same', 'changed', 'moved', 'copied', 'new', 'missing', 'unreadable')
     last = ', '.join(f'{counts[word]} {word}' for word in classes).encode()
-    return b''.join(line_of(*result) for result in (*sorted(both), *sorted(others))) + last + b'\n'
+    return b''.join(line_of(*result) for result in results) + last + b'\n'
+
+
+def slow_objects(before, after, digests):
+    """The results of the audit, as the JSON objects mean them, from the digest of each text."""
+    objects = []
+    for name, word, *other in slow_results(before, after)[0]:
+        state = STATES.get(word, word.decode())
+        found = {'name': name, 'state': state, 'from': other[0] if other else None}
+        found['listed'] = digests[before[other[0] if other else name]] if state != 'new' else None
+        found['actual'] = digests[after[name]] if state != 'missing' else None
+        objects.append({key: value for key, value in found.items() if value is not None})
+    return objects
 
 
 def lay_out(before, after):
@@ -175,6 +200,26 @@ class Audits:
         self.actual = self.audit(['--files0-from', './list'], b''.join(self.names))
         note = self.expected.splitlines()[-1].decode()
         self.record('a tree that was changed', self.actual == (self.expected, b'', 1), note)
+
+    def as_json(self):
+        names = b''.join(self.names)
+        written = self.digests_of(self.before, self.lines)
+        text = found(self.ours, ['-H3', '--files0-from', '-'], b''.join(name + b'\0' for name in self.after))[0]
+        digests = {**written, **self.digests_of(self.after, text.splitlines())}
+        out, *rest = self.audit(['--format=json', '--files0-from', './list'], names)
+        objects = [json.loads(line) for line in out.split(b'\n')[:-1]]
+        for one in objects:
+            one.update({key: one[key].encode() for key in {*one} - {'state'}})
+        expected = slow_objects(self.before, self.after, digests)
+        self.record('as JSON, which Python reads', objects == expected and rest == [b'', 1], f'{len(expected)} objects')
+        quiet = self.audit(['-q', '--format', 'json', '--files0-from', './list'], names)[0]
+        same = b'","state":"same","listed":"'
+        self.record('-q as JSON', quiet == b''.join(x for x in out.splitlines(keepends=True) if same not in x))
+
+    @staticmethod
+    def digests_of(tree, lines):
+        """The digest of each text of a tree, whose lines are in its order."""
+        return {text: line.split(b'  ')[0].lstrip(b'\\') for text, line in zip(tree.values(), lines, strict=True)}
 
     def print_memory(self):
         write('names', b''.join(self.names))
@@ -251,6 +296,7 @@ def main():
         audits = Audits(ours, given.files, report)
         audits.unchanged()
         audits.changed()
+        audits.as_json()
         audits.print_memory()
         audits.other_orders()
         audits.few_names()

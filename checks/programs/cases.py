@@ -3,11 +3,12 @@
 The originals define what is correct, so only a case in which ours intentionally differs has an expected result here;
 docs/XXHSUM.md has the reason of each. The digests in lists are those of the files below, as the originals printed
 them."""
+import os
 import shlex
 from typing import NamedTuple, Optional
 
 from . import messages
-from .runs import marked
+from .runs import escaped, json_object, marked
 
 # The parts of two runs that must be equal. Help and version have their maker's name, so their text is not compared.
 ALL = ('out', 'err', 'status')
@@ -830,6 +831,95 @@ def audits_with_nuls():
     ]
 
 
+def audits_as_json():
+    """--format of an audit: an object for each result, and messages that are still lines."""
+    lines = X64 + b'  a\n' + WRONG + b'  *star\n' + EMPTY + b'  e\n' + X64 + b'  old\n' + X64_LE + b'  lost\n'
+    changed = (
+        json_object('changed', b'*star', b'', WRONG, X64)
+        + json_object('same', b'a', b'', X64, X64)
+        + json_object('same', b'e', b'', EMPTY, EMPTY)
+        + json_object('moved', b'(p)', b'old', X64, X64)
+        + json_object('new', b'b c', actual=b'e778fbfe66ee51ef')
+        + json_object('missing', b'lost', listed=X64_LE)
+    )
+    names = ('lines', 'a', 'e', 'b c', '(p)', '*star')
+    odd = b'\x01"\\\b\t\n\f\r\x1f\x7f\xc2\x80\xf0\x9f\x98\x80'
+    xxh3 = b'XXH3_' + X3
+    no_text = b'no\xfftext \xc3\xa9'
+    missing = {'lines': X64 + b'  ' + no_text + b'\n'}
+    gone = one_line(messages.unopened(no_text, messages.NOT_UTF8))
+
+    def audit(name, args, expected, **files):
+        return Case(name, ('--audit', *args), files={'lines': lines, **files}, expected=expected)
+
+    return [
+        audit('an audit as JSON', ('--format=json', *names), ours(changed, status=1)),
+        audit('an audit as JSON, by two words', ('--format', 'json', *names), ours(changed, status=1)),
+        audit(
+            'an audit as JSON, quiet',
+            ('-q', '--format=json', 'lines', 'a', '*star'),
+            ours(
+                json_object('changed', b'*star', b'', WRONG, X64)
+                + json_object('missing', b'e', listed=EMPTY)
+                + json_object('missing', b'lost', listed=X64_LE)
+                + json_object('missing', b'old', listed=X64),
+                status=1,
+            ),
+        ),
+        audit('an audit as JSON, status', ('--status', '--format=json', *names), ours(b'', status=1)),
+        audit('an audit as text', ('--format=json', '--format=text', 'lines', 'a'), audited(b'a: same'), lines=GOOD),
+        audit('an audit as text, with -z', ('-z', '--format', 'text', 'good', 'a'), audited(b'a: same', end=b'\0')),
+        audit(
+            'an audit as JSON of an odd name',
+            ('--format=json', 'lines', odd, 'copy'),
+            ours(json_object('same', odd, b'', xxh3, xxh3) + json_object('copied', b'copy', odd, xxh3, xxh3), status=1),
+            lines=b'\\' + xxh3 + b'  ' + escaped(odd) + b'\n',
+            copy=HELLO,
+            **{os.fsdecode(odd): HELLO},
+        ),
+        audit(
+            'an audit as JSON, little endian',
+            ('--format=json', '--little-endian', 'lines', 'a'),
+            ours(json_object('same', b'a', b'', X128_LE, X128_LE)),
+            lines=X128_LE + b'  a\n',
+        ),
+        audit(
+            'an audit as JSON of a missing name that is not UTF-8',
+            ('--format=json', 'lines'),
+            ours(json_object('missing', no_text, listed=X64), status=1),
+            **missing,
+        ),
+        audit(
+            'an audit as JSON of a name that is not UTF-8',
+            ('--format=json', '--files0-from', 'lines', 'names'),
+            ours(json_object('unreadable', no_text), gone, 1),
+            names=no_text,
+            **missing,
+        ),
+        audit(
+            'an audit as JSON of a malformed list',
+            ('--format=json', 'lines', 'a'),
+            fails([messages.in_line('lines', 1)]),
+            lines=b'l\n',
+        ),
+        Case(
+            'an audit as JSON to a full disk', shell='"$X" --audit --format=json good a >/dev/full', expected=refused()
+        ),
+        *(
+            Case(f'{name} of --format', args, expected=fails([messages.wrong(what)]))
+            for name, args, what in (
+                ('another value', ('--audit', '--format=xml', 'good', 'a'), "'--format=xml'"),
+                ('another value as a word', ('--audit', '--format', 'JSON', 'good', 'a'), "'JSON'"),
+                ('an empty value', ('--audit', '--format=', 'good', 'a'), "'--format='"),
+                ('no value', ('--audit', '--format'), "'--format'"),
+                ('no audit', ('--format=json', 'a'), "'--format' without '--audit'"),
+                ('a check', ('-c', '--format', 'text', 'good'), "'--format' without '--audit'"),
+                ('NULs', ('-z', '--audit', '--format=json', 'good', 'a'), "'-z' with '--format=json'"),
+            )
+        ),
+    ]
+
+
 def several_lists():
     """Lists by names, from standard input, and missing."""
     return [
@@ -1069,6 +1159,7 @@ def small_stacks():
         'names': ('--files-from named', GOOD),
         'a folder': ('-r d', X64 + b'  d/inner\n'),
         'an audit': ('--audit good a', audited(b'a: same')['out']),
+        'an audit as JSON': ('--audit --format=json good a', json_object('same', b'a', b'', X64, X64)),
         'an audit of a folder': ('-r --audit inner d', audited(b'd/inner: same')['out']),
         'input': ('- <a', X64 + b'  stdin\n'),
     }
@@ -1313,6 +1404,7 @@ CASES = (
     + missing_files()
     + lines_with_nuls()
     + audits_with_nuls()
+    + audits_as_json()
     + several_lists()
     + ends()
     + trees()

@@ -14,7 +14,7 @@ FILES = {'bash': 'xxhsum.bash', 'zsh': '_xxhsum', 'fish': 'xxhsum.fish'}
 ALGORITHM = '-H#'
 ALGORITHMS = {'-H0': 'XXH32', '-H1': 'XXH64', '-H2': 'XXH3 of 128 bits', '-H3': 'XXH3 of 64 bits'}
 # The options that an argument follows, and its name in the help.
-VALUES = {'--exclude': 'PATTERN'}
+VALUES = {'--exclude': 'PATTERN', '--format': 'FORMAT'}
 WRITTEN = 'Written from the help by checks/xxhsum --completions.'
 
 

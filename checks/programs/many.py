@@ -2,15 +2,16 @@
 
     checks/xxhsum-many PROGRAM.. [--only WORD]
 
-A tree of 150,000 names, of which one directory has 120,000; names of every shape, as find and sort print them, and
-without those that patterns exclude, as find and Python's fnmatch match them; an audit
-of 70,000 equal files; a list of names that comes in 150,000 reads; 130,000 arguments. All files are empty, and the
-expected output is derived from the digest of no bytes. Wrong programs are planted, which must be detected. The last
-line is "N passed, M failed". It takes some 20 seconds of processor time for each program, and no space except that of
-the names."""
+A tree of 150,000 names, of which one directory has 120,000; names of every shape, as find and sort print them, as
+Python reads them from an audit as JSON, and without those that patterns exclude, as find and Python's fnmatch match
+them; an audit of 70,000 equal files; a list of names that comes in 150,000 reads; 130,000 arguments. All files are
+empty, and the expected output is derived from the digest of no bytes. Wrong programs are planted, which must be
+detected. The last line is "N passed, M failed". It takes some 20 seconds of processor time for each program, and no
+space except that of the names."""
 import contextlib
 import fnmatch
 import itertools
+import json
 import os
 import random
 import re
@@ -103,6 +104,10 @@ PLANTED = {
         '[ "$3" = "i*n*r" ] && set -- -rz --exclude "i*nr" shapes; exec "$REAL" "$@"',
         'excluded names',
     ),
+    'a control character in JSON': (
+        '"$REAL" "$@" | case $* in *json*) sed "s/\\\\\\\\u0001/\\x01/" ;; *) cat ;; esac',
+        'names of every shape as JSON',
+    ),
     'a folder whose names end early': ('"$REAL" "$@" | head -n 532', 'a tree of many names'),
     'no memory for many files': ('echo "Error: Out of memory." >&2; exit 1', 'an audit of many equal files'),
     'a list that is read in part': ('head -c 100000 | "$REAL" "$@"', 'a list in many reads'),
@@ -166,6 +171,24 @@ def shapes_of_names(program, _names):
     ).stdout
     check(listed == b''.join(name + b'\0' for name in sorted(built)), 'find lists other names')
     check_output(found(program, ['-rz', 'shapes'], seconds=SECONDS), lines(sorted(built), b'\0'))
+    return f'{len(built):,} names'
+
+
+def shapes_in_json(program, names):
+    """An audit of names of every shape as JSON: Python's `json` reads each name."""
+    shapes_of_names(program, names)
+    built = sorted(b'shapes/' + name for name in shaped_names())
+    write('list', found(program, ['-r', 'shapes'], seconds=SECONDS)[0])
+    out, *rest = found(program, ['-r', '--audit', '--format=json', 'list', 'shapes'], seconds=SECONDS)
+    check(rest == [b'', 0], f'it reports {rest[0][:300]!r}, and its status is {rest[1]}')
+    digest = EMPTY.decode()
+    expected = [{'name': name.decode(), 'state': 'same', 'listed': digest, 'actual': digest} for name in built]
+    check(out.count(b'\n') == len(built), f'it prints {out.count(10)} lines for {len(built)} names')
+    try:
+        objects = [json.loads(line) for line in out.split(b'\n')[:-1]]
+    except ValueError as error:
+        raise Fault(f'a line is not JSON: {error}') from error
+    check(objects == expected, 'the objects have other names')
     return f'{len(built):,} names'
 
 
@@ -245,6 +268,7 @@ def many_arguments(program, _names):
 CASES = {
     'a tree of many names': many_names,
     'names of every shape': shapes_of_names,
+    'names of every shape as JSON': shapes_in_json,
     'excluded names': excluded_names,
     'excluded names of an alphabet': sampled_patterns,
     'an audit of many equal files': audit_of_equal_files,

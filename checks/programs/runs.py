@@ -1,5 +1,6 @@
 """Shared by the tests of `xxhsum`: runs, names as lines have them, and planted programs."""
 import fcntl
+import json
 import os
 import subprocess
 from typing import Any, Optional, Sequence, Union
@@ -30,6 +31,18 @@ def marked(text: bytes) -> bytes:
     """Escapes a text that begins a line, which then begins with a backslash."""
     shown = escaped(text)
     return shown if shown == text else b'\\' + shown
+
+
+def json_object(state: str, name: bytes, old: bytes = b'', listed: bytes = b'', actual: bytes = b'') -> bytes:
+    """A result of an audit as a JSON object, which Python's `json` writes."""
+    members = {'name': name, 'state': state.encode(), 'from': old, 'listed': listed, 'actual': actual}
+    given = {
+        key: value.decode('utf-8' if is_utf8(value) else 'ascii', 'surrogateescape')
+        for key, value in members.items()
+        if value
+    }
+    text = json.dumps(given, ensure_ascii=False, separators=(',', ':'))
+    return text.encode(errors='backslashreplace') + b'\n'
 
 
 def is_utf8(text: bytes) -> bool:

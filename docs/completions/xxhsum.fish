@@ -6,6 +6,7 @@ for program in xxhsum xxh32sum xxh64sum xxh128sum xxh3sum
     complete -c $program -o H3 -d 'XXH3 of 64 bits'
     complete -c $program -s c -l check -d 'read checksums from the FILEs and check them'
     complete -c $program -l audit -d 'compare the FILEs with the first one, a checksum list'
+    complete -c $program -x -l format -d 'with --audit: print text, the default, or json, an object per line'
     complete -c $program -s r -l recursive -d 'read the files below each directory, sorted by name; not with -c or lists of names'
     complete -c $program -x -l exclude -d 'with -r: skip files and directories whose name matches PATTERN: * any bytes, ? any byte, \\ quotes; not the FILEs themselves'
     complete -c $program -l files-from -l filelist -d 'read the names of files from the FILEs, one name per line'

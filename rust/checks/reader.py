@@ -223,6 +223,7 @@ IN_PROGRAMS = [
         ('write!(words, "{error}")', 'write!(words, "{}", io::Shown(&error))', 'xxh_io/words'),
         ('fn fmt<W: fmt::Write>(&self, f: &mut fmt::Formatter<W>)', "fn fmt(&self, f: &mut fmt::Formatter<'_>)", '*'),
         ('= str::from_utf8', '= std::str::from_utf8', 'xxhsum_fs/system'),
+        ('match str::from_utf8', 'match std::str::from_utf8', 'xxhsum_audit/json'),
     )
 ]
 PRELUDE = {'AllocGlobal', 'Clone', 'HostRuntime', 'String', 'Vec', 'prove', 'vec'}
@@ -267,7 +268,7 @@ PROGRAMS = Tree(
     (*CRATES, *OF_PROGRAMS),
     IN_PROGRAMS,
     GONE,
-    [tokens_of(name) for name in (*OF_RATTLE, '= str::from_utf8')],
+    [tokens_of(name) for name in (*OF_RATTLE, '= str::from_utf8', 'match str::from_utf8')],
     ROOTS,
 )
 

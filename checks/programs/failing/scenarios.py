@@ -233,6 +233,11 @@ def of_audits(world):
             ('-r', '--audit', 'below', 'd'),
             lambda fault: worlds.audited_below(world, 'below', below, ['d'], fault),
         ),
+        Scenario(
+            'an audit as JSON',
+            ('--audit', '--format=json', 'lines', *names),
+            lambda fault: worlds.audited(world, 'lines', entries, names, fault, in_json=True),
+        ),
         Scenario('an audit of names that NULs end', ('--audit', '--files0-from', 'lines', 'names'), listed_audit),
     ]
 

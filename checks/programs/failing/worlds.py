@@ -10,6 +10,7 @@ from typing import Callable, Collection, NamedTuple, Optional, Sequence
 from checks.lib.tools import write
 
 from .. import messages
+from ..runs import json_object
 
 HELLO = b'hello'
 # Three full reads of a file, and a part of one.
@@ -257,7 +258,7 @@ def unread_list(lists: Collection[str], fault: Optional[Fault]) -> str:
 
 
 def classes(entries, found):
-    """The class of each line and name, in the order of the report: (the output, its class)."""
+    """The class of each line and name, in the order of the report: (the name, the words, the other name, its class)."""
     by_name = sorted(set(entries) & set(found), key=os.fsencode)
     settled = [(name, 'same' if entries[name] == found[name] else 'changed') for name in by_name]
     gone = sorted(((entries[name], name) for name in set(entries) - set(found)))
@@ -268,16 +269,29 @@ def classes(entries, found):
         copied = next((it for it, state in settled if state == 'same' and found[it] == value), None)
         if old:
             gone.remove(old)
-            moved.append((name, f'moved from {old[1]}', 'moved'))
+            moved.append((name, 'moved from', old[1], 'moved'))
         elif copied:
-            moved.append((name, f'copy of {copied}', 'copied'))
+            moved.append((name, 'copy of', copied, 'copied'))
         else:
-            moved.append((name, 'new', 'new'))
-    moved += [(name, 'missing', 'missing') for _, name in gone]
-    return [
-        (f'{name}: {text}', state)
-        for name, text, state in [(name, state, state) for name, state in settled] + sorted(moved)
-    ]
+            moved.append((name, 'new', '', 'new'))
+    moved += [(name, 'missing', '', 'missing') for _, name in gone]
+    return [(name, state, '', state) for name, state in settled] + sorted(moved)
+
+
+def objects(results, entries, found):
+    """The results as JSON, which has no counts."""
+    digests = {name: value.encode() for name, value in entries.items()}
+    listed = {'new': '', 'unreadable': ''}
+    return b''.join(
+        json_object(
+            state,
+            name.encode(),
+            other.encode(),
+            digests.get(listed.get(state, other or name), b''),
+            found.get(name, '').encode(),
+        )
+        for name, _, other, state in results
+    ).decode()
 
 
 def audited(
@@ -288,6 +302,7 @@ def audited(
     fault: Optional[Fault] = None,
     before: str = '',
     lost: Sequence[str] = (),
+    in_json: bool = False,
 ) -> Outcome:
     """The audit of names against a list with these digests. A name with no digest is unreadable; so are directories
     that could not be read, and the lines of names below them."""
@@ -299,14 +314,13 @@ def audited(
     hidden = [name for name in entries if name not in names and any(f'{name}/'.startswith(f'{it}/') for it in lost)]
     unreadable = [*lost, *sorted([*hidden, *(name for name in unread if unread[name])], key=os.fsencode)]
     readable = {name: value for name, value in entries.items() if name not in unreadable}
-    classes_found = classes(readable, found) + [(f'{name}: unreadable', 'unreadable') for name in unreadable]
+    results = classes(readable, found) + [(name, 'unreadable', '', 'unreadable') for name in unreadable]
     states = ('same', 'changed', 'moved', 'copied', 'new', 'missing', 'unreadable')
-    counts = ', '.join(f'{sum(state == it for _, state in classes_found)} {it}' for it in states)
-    is_well = all(state == 'same' for _, state in classes_found)
+    counts = ', '.join(f'{sum(state == it for *_, state in results)} {it}' for it in states)
+    is_well = all(state == 'same' for *_, state in results)
+    lines = ''.join(f'{name}: {text} {other}'.rstrip() + '\n' for name, text, other, _ in results) + counts + '\n'
     return Outcome(
-        ''.join(f'{text}\n' for text, _ in classes_found) + counts + '\n',
-        before + ''.join(unread.values()),
-        0 if is_well else 1,
+        objects(results, entries, found) if in_json else lines, before + ''.join(unread.values()), 0 if is_well else 1
     )
 
 

@@ -1,19 +1,28 @@
 -- The printed text of an audit.
-use Rattle.std.specs.Prelude.{◌≡◌, ℕ, Bool, true, false, ◌&&◌, List, [], ◌∷◌, ◌++◌, codes, decimal, if◌then◌else◌, count_by, flat_map, length, map, Result, Ok, Err}
+use Rattle.std.specs.Prelude.{◌≡◌, ℕ, Bool, true, false, ◌&&◌, not, List, [], ◌∷◌, ◌++◌, codes, decimal, if◌then◌else◌, count_by, flat_map, length, map, Result, Ok, Err}
 use Rattle.xxhsum_app.specs.Prelude.{Options, OutOfMemory, Refused, SinkRules, Stop, Took, WriteFailed}
 use Rattle.xxhsum_audit.specs.declared.verdict.Class.{Class}
 use Rattle.xxhsum_audit.specs.declared.verdict.Class.TheVariants as Of
 use Rattle.xxhsum_audit.specs.Found.{Found, is_of_class}
+use Rattle.xxhsum_audit.specs.Json.{remark_json}
 use Rattle.xxhsum_audit.specs.Text.{Classed, Remark, Unreadable, remark_text}
 
 abbrev pub is_same : Remark → Bool
 is_same (Classed found) = is_of_class Of.Same found
 is_same (Unreadable name) = false
 
--- The text of a result. With `-q`, an unchanged file has none. With `-z`, it ends with a NUL.
+-- True if results are JSON objects (`--format=json`, which is refused with `-z`).
+abbrev pub has_objects : Options → Bool
+has_objects options = options.is_json && not options.ends_in_nul
+
+-- The text of a result: a JSON object, a line, or with `-z` a record that ends with a NUL.
+abbrev pub formed_text : Options → Remark → List ℕ
+formed_text options remark =
+    if has_objects options then remark_json options.is_little_endian remark else remark_text options.ends_in_nul remark
+
+-- The text of a result. With `-q`, an unchanged file has none.
 abbrev pub shown_text : Options → Remark → List ℕ
-shown_text options remark =
-    if options.is_quiet && is_same remark then [] else remark_text options.ends_in_nul remark
+shown_text options remark = if options.is_quiet && is_same remark then [] else formed_text options remark
 
 abbrev pub shown_texts : Options → List Remark → List ℕ
 shown_texts options remarks = flat_map (shown_text options) remarks
@@ -26,14 +35,16 @@ remarks_of found unread = map Classed found ++ map Unreadable unread
 abbrev pub class_text : Class → List Found → List ℕ → List ℕ
 class_text class found word = decimal (count_by (is_of_class class) found) ++ word
 
+-- The number of results of each class. JSON has none.
 abbrev pub counts_text : Options → List Found → List (List ℕ) → List ℕ
 counts_text options found unread =
+    if has_objects options then [] else
     class_text Of.Same found (codes " same, ") ++ class_text Of.Changed found (codes " changed, ")
     ++ class_text Of.Moved found (codes " moved, ") ++ class_text Of.Copied found (codes " copied, ")
     ++ class_text Of.New found (codes " new, ") ++ class_text Of.Missing found (codes " missing, ")
     ++ decimal (length unread) ++ codes " unreadable" ++ (if options.ends_in_nul then 0 else 10) ∷ []
 
--- The results, the names that can't be read, and the number of each class. Empty with `--status`.
+-- The results, the names that can't be read, and the numbers. Empty with `--status`.
 abbrev pub report_text : Options → List Found → List (List ℕ) → List ℕ
 report_text options found unread =
     if options.is_status_only then []

@@ -1,7 +1,7 @@
 //! Prints the report of an audit.
 
 ghost use Rattle.std.specs.Prelude.{◌≡◌, ◌++◌, ◌&&◌, false, decimal, IfOk, map};
-ghost use Rattle.xxhsum_app.specs.Report.{PrintsRemarks, PrintsReport, are_same, class_text, counts_text, shown_text};
+ghost use Rattle.xxhsum_app.specs.Report.{PrintsRemarks, PrintsReport, are_same, class_text, counts_text, formed_text, has_objects, shown_text};
 ghost use Rattle.xxhsum_audit.specs.Found.{found_of, founds_of};
 ghost use Rattle.xxhsum_audit.specs.Item.{texts_of};
 ghost use Rattle.xxhsum_audit.specs.Text.{Classed, Unreadable};
@@ -11,6 +11,7 @@ ghost use Rattle.xxhsum_program.specs.Lines.{PrintsLine};
 use itoa::Buffer;
 use std::alloc::{AllocError, Global};
 use xxh_io::streams::Sink;
+use xxhsum_audit::json::{unreadable_json, verdict_json};
 use xxhsum_audit::text::{unreadable_text, verdict_text};
 use xxhsum_audit::verdict::{Class, Verdict, count_of};
 use xxhsum_options::options::Options;
@@ -89,7 +90,7 @@ fn print_one<W: Sink>(
     if options.is_quiet && verdict.class() == Class::Same {
         return Ok(());
     }
-    let text = verdict_text(alloc, verdict, options.ends_in_nul)?;
+    let text = formed_verdict(alloc, options, verdict)?;
     print(&text, out)
 }
 
@@ -105,11 +106,45 @@ fn print_name<W: Sink>(
         out.old out.new result }
     ensures works { IfOk result (λ _. W.has_failed out.new ≡ false) }
 {
-    let text = unreadable_text(alloc, name, options.ends_in_nul)?;
+    let text = formed_name(alloc, options, name)?;
     print(&text, out)
 }
 
-// Returns the text with the count of each class.
+// True if results are JSON objects.
+fn has_objects(options: Options) -> bool
+    ensures { result ≡ has_objects options }
+{
+    options.is_json && !options.ends_in_nul
+}
+
+// Returns the text of a verdict.
+fn formed_verdict(
+    alloc: Global,
+    options: Options,
+    verdict: Verdict<'_>,
+) -> Result<Vec<u8>, AllocError>
+    ensures { IfOk result
+        (λ text. text.items ≡ formed_text options (Classed (found_of verdict.entry))) }
+{
+    if has_objects(options) {
+        verdict_json(alloc, verdict, options.is_little_endian)
+    } else {
+        verdict_text(alloc, verdict, options.ends_in_nul)
+    }
+}
+
+// Returns the text of a name that can't be read.
+fn formed_name(alloc: Global, options: Options, name: &[u8]) -> Result<Vec<u8>, AllocError>
+    ensures { IfOk result (λ text. text.items ≡ formed_text options (Unreadable name.now)) }
+{
+    if has_objects(options) {
+        unreadable_json(alloc, name)
+    } else {
+        unreadable_text(alloc, name, options.ends_in_nul)
+    }
+}
+
+// Returns the text with the count of each class; JSON has none.
 fn counts_line(
     alloc: Global,
     options: Options,
@@ -120,6 +155,9 @@ fn counts_line(
         (λ line. line.items ≡ counts_text options (founds_of found.now) (texts_of unread.now)) }
 {
     let mut line = Vec::new(alloc);
+    if has_objects(options) {
+        return Ok(line);
+    }
     put_count(&mut line, Class::Same, found, b" same, ")?;
     put_count(&mut line, Class::Changed, found, b" changed, ")?;
     put_count(&mut line, Class::Moved, found, b" moved, ")?;

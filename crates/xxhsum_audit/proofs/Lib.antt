@@ -16,3 +16,4 @@ pub mod EqualFacts
 pub mod CountFacts
 pub mod PartFacts
 pub mod TextFacts
+pub mod JsonFacts

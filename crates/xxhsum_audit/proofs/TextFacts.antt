@@ -5,9 +5,9 @@ use Rattle.xxhsum_audit.proofs.Prelude.{escaped_behind, has_separator, is_marked
 use Rattle.std.proofs.Common.{reverse}
 use Rattle.std.proofs.lemmas.Bool.{and_parts, cases_eq, ne_eqb, or_parts}
 use Rattle.std.proofs.lemmas.Bool.Decides.{nat_tests}
-use Rattle.std.specs.Prelude.{is_some, nat_le, ◌&&◌, ◌||◌}
+use Rattle.std.specs.Prelude.{is_some, nat_le, ◌||◌}
 use Rattle.xxhsum_line.proofs.EscapeFacts.{escape_is_undone, escaped_lacks_line_feed, plain_names_stay}
-use Rattle.xxhsum_line.proofs.LackFacts.{first_same, lacks_both}
+use Rattle.xxhsum_line.proofs.LackFacts.{all_pass, first_same, lacks_both, lacks_failing}
 use Rattle.xxhsum_line.specs.Escapes.{escape, escaped, is_special, needs_escape, unescaped}
 use Rattle.xxhsum_line.specs.Parts.{Lacks}
 
@@ -17,16 +17,10 @@ abbrev is_letter : ℕ → Bool
 is_letter c = nat_eq c 32 || nat_le 97 c
 
 abbrev are_letters : List ℕ → Bool
-are_letters [] = true
-are_letters (c ∷ cs) = is_letter c && are_letters cs
+are_letters text = all_pass is_letter text
 
 letters-lack : (byte : ℕ) (text : List ℕ) → is_letter byte ≡ false → are_letters text ≡ true → Lacks byte text
-letters-lack byte [] other all = tt
-letters-lack byte (c ∷ cs) other all =
-    let both = and_parts (is_letter c) (are_letters cs) all in (
-      λ e. let no : true ≡ false = sym both.0 ∙ ap is_letter e ∙ other in let none : ⊥ = cc in none,
-      letters-lack byte cs other both.1,
-    )
+letters-lack byte text other all = lacks_failing is_letter byte text other all
 
 -- Lemma: what holds of the words of each class holds of the words of a result.
 pub each-words : (P : List ℕ → Type 0) → P (codes "same") → P (codes "changed") → P (codes "moved from") → P (codes "copy of") → P (codes "new")

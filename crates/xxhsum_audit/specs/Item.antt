@@ -1,5 +1,5 @@
 -- The digest of a file: a name, an algorithm and a value.
-use Rattle.std.specs.Prelude.{ℕ, ◌≡◌, ◌≢◌, ◌⊎◌, Bool, List, [], ◌∷◌, codes, map, nat_eq, take, if◌then◌else◌}
+use Rattle.std.specs.Prelude.{ℕ, ◌≡◌, ◌≢◌, ◌⊎◌, Bool, List, [], ◌∷◌, Option, codes, map, nat_eq, option_map, take, if◌then◌else◌}
 use Rattle.std.specs.Borrow.{Bor}
 use Rattle.std.specs.Cmp.Lexicographic.{pointwise}
 use Rattle.xxh_io.specs.declared.kind.Kind.{Kind}
@@ -22,6 +22,9 @@ names_of items = map name_of items
 
 abbrev pub item_of : FileDigest → Item
 item_of one = Says one.name.now one.kind one.value
+
+abbrev pub item_in : Option FileDigest → Option Item
+item_in one = option_map item_of one
 
 abbrev pub items_of : List FileDigest → List Item
 items_of digests = map item_of digests

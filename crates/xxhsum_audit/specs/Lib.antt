@@ -1,6 +1,7 @@
 pub mod Audit
 pub mod Found
 pub mod Item
+pub mod Json
 pub mod Laws
 pub mod List
 pub mod Order

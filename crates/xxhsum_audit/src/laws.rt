@@ -1,6 +1,7 @@
 //! The laws of audits.
 
 ghost use Rattle.xxhsum_audit.specs.Laws.{CopiesTheFirst, CountsAddUp, HasNoDuplicate, IsOneReport, LeavesNoCopy, LeavesNoMove, SameMeansEqual, TellsEachLineOnce, TellsEachNameOnce, TellsRight};
+ghost use Rattle.xxhsum_audit.specs.Json.{ObjectIsOneLine, ObjectsDiffer};
 ghost use Rattle.xxhsum_audit.specs.Text.{LinesDiffer, RecordsDiffer, RemarkIsOneLine};
 
 /// Lemma (no code), the laws of audits. An audit reports each line of the list once and each name once. No two lines
@@ -26,9 +27,11 @@ pub fn laws_of_audits()
 
 /// Lemma (no code), the laws of an audit's text. Each result is one line, whatever names it has. Two results with one
 /// line have the same name, class and other name; so have two with one record that ends with a NUL, if no name has a
-/// NUL.
+/// NUL. A JSON object is one line, and two results with one object have the same members.
 pub fn laws_of_texts()
     ensures one_line { RemarkIsOneLine }
     ensures lines { LinesDiffer }
     ensures records { RecordsDiffer }
+    ensures one_object { ObjectIsOneLine }
+    ensures objects { ObjectsDiffer }
 {}

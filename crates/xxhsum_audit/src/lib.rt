@@ -4,6 +4,7 @@
 #![tactic(auto)]
 
 pub mod digest;
+pub mod json;
 pub mod laws;
 pub mod list;
 pub mod moves;

@@ -20,30 +20,13 @@ pub fn verdict_text(
     ensures { IfOk result (λ text. text.items
         ≡ remark_text ends_in_nul (Classed (found_of verdict.entry))) }
 {
-    match verdict {
-        Verdict::Same { name, .. } => text_of(alloc, name.name, b"same", None, ends_in_nul),
-        Verdict::Changed { name, .. } => text_of(alloc, name.name, b"changed", None, ends_in_nul),
-        Verdict::Moved { line, name } => {
-            text_of(
-                alloc,
-                name.name,
-                b"moved from",
-                Some(line.name),
-                ends_in_nul,
-            )
-        }
-        Verdict::Copied { original, name } => {
-            text_of(
-                alloc,
-                name.name,
-                b"copy of",
-                Some(original.name),
-                ends_in_nul,
-            )
-        }
-        Verdict::New { name } => text_of(alloc, name.name, b"new", None, ends_in_nul),
-        Verdict::Missing { line } => text_of(alloc, line.name, b"missing", None, ends_in_nul),
-    }
+    text_of(
+        alloc,
+        verdict.told().name,
+        verdict.words(),
+        verdict.other(),
+        ends_in_nul,
+    )
 }
 
 /// Returns the line or the record of a name whose file or directory can't be read. Returns `AllocError` if out of

@@ -2,8 +2,10 @@
 
 ghost use Rattle.std.specs.Prelude.{◌≡◌, count_by};
 ghost use Rattle.xxhsum_audit.specs.Found.{class_of, found_of, founds_of, is_of_class, met, rank_founds, rank_of_class, source_in, told};
-ghost use Rattle.xxhsum_audit.specs.Item.{item_of};
+ghost use Rattle.xxhsum_audit.specs.Item.{item_in, item_of};
+ghost use Rattle.xxhsum_audit.specs.Json.{told_actual, told_listed, told_state};
 ghost use Rattle.xxhsum_audit.specs.Order.{IsOrder};
+ghost use Rattle.xxhsum_audit.specs.Text.{Classed, text_in, told_other, told_words};
 
 use crate::digest::FileDigest;
 use crate::order::{compare_digests, rank_digests, rank_names};
@@ -66,7 +68,7 @@ impl<'n> Verdict<'n> {
     }
 
     // Returns the digest of the name that it is about.
-    fn told(self) -> FileDigest<'n>
+    pub(crate) fn told(self) -> FileDigest<'n>
         ensures { item_of result ≡ told (found_of self.entry) }
     {
         match self {
@@ -92,6 +94,37 @@ impl<'n> Verdict<'n> {
             Verdict::New { name } => name,
         }
     }
+
+    // Returns the name that it was moved from or is a copy of.
+    pub(crate) fn other(self) -> Option<&'n [u8]>
+        ensures { text_in result ≡ told_other (Classed (found_of self.entry)) }
+    {
+        match self {
+            Verdict::Moved { line, .. } => Some(line.name),
+            Verdict::Copied { original, .. } => Some(original.name),
+            _ => None,
+        }
+    }
+
+    // Returns the listed digest: of the name, of its old name, or of the file that it is a copy of.
+    pub(crate) fn listed(self) -> Option<FileDigest<'n>>
+        ensures { item_in result ≡ told_listed (Classed (found_of self.entry)) }
+    {
+        match self {
+            Verdict::New { .. } => None,
+            _ => Some(self.source()),
+        }
+    }
+
+    // Returns the digest that the file has.
+    pub(crate) fn actual(self) -> Option<FileDigest<'n>>
+        ensures { item_in result ≡ told_actual (Classed (found_of self.entry)) }
+    {
+        match self {
+            Verdict::Missing { .. } => None,
+            _ => Some(self.told()),
+        }
+    }
 }
 
 impl Verdict<'_> {
@@ -106,6 +139,31 @@ impl Verdict<'_> {
             Verdict::Copied { .. } => Class::Copied,
             Verdict::New { .. } => Class::New,
             Verdict::Missing { .. } => Class::Missing,
+        }
+    }
+
+    // Returns the words for its class in a line.
+    pub(crate) fn words(self) -> &'static [u8]
+        ensures { result.now ≡ told_words (Classed (found_of self.entry)) }
+    {
+        match self {
+            Verdict::Moved { .. } => b"moved from",
+            Verdict::Copied { .. } => b"copy of",
+            _ => self.state(),
+        }
+    }
+
+    // Returns the word for its class in JSON.
+    pub(crate) fn state(self) -> &'static [u8]
+        ensures { result.now ≡ told_state (Classed (found_of self.entry)) }
+    {
+        match self {
+            Verdict::Same { .. } => b"same",
+            Verdict::Changed { .. } => b"changed",
+            Verdict::Moved { .. } => b"moved",
+            Verdict::Copied { .. } => b"copied",
+            Verdict::New { .. } => b"new",
+            Verdict::Missing { .. } => b"missing",
         }
     }
 }

@@ -44,7 +44,7 @@ nothing_of_tagged is_little text tag name digits here none kind value name' (inr
     ∙ ap (λ t. value_meant kind (is_little_tag t) digits) same.0 ∙ ap (value_meant kind (is_little_tag p.0)) same.2 ∙ p.4)
 
 -- Lemma: two entries of one text are equal.
-text_says_same : (is_little : Bool) (text : List ℕ) (kind : Kind) (value : ℕ) (name : List ℕ) (kind' : Kind) (value' : ℕ) (name' : List ℕ)
+pub text_says_same : (is_little : Bool) (text : List ℕ) (kind : Kind) (value : ℕ) (name : List ℕ) (kind' : Kind) (value' : ℕ) (name' : List ℕ)
     → TextSays is_little text kind value name → TextSays is_little text kind' value' name'
     → (kind ≡ kind') × (value ≡ value') × (name ≡ name')
 text_says_same is_little text kind value name kind' value' name' (inl p) (inl q) =

@@ -1,5 +1,5 @@
 -- Lemmas on lists that lack a byte, and on splits at the first or last position of a byte.
-use Rattle.xxhsum_line.proofs.Prelude.{ne_eqb, rules, true, refl, eq-eqb, take_rest, is_byte, ◌≡◌, ◌≢◌, ℕ, suc, ◌+◌, ◌-◌, ◌<◌, ◌≤◌, List, [], ◌∷◌, ◌++◌, length, take, drop, get_or, sym, ap, subst, ◌∙◌, inl, inr, arith, drop_more}
+use Rattle.xxhsum_line.proofs.Prelude.{ne_eqb, rules, Bool, true, false, ◌&&◌, and_parts, refl, eq-eqb, take_rest, is_byte, ◌≡◌, ◌≢◌, ℕ, suc, ◌+◌, ◌-◌, ◌<◌, ◌≤◌, List, [], ◌∷◌, ◌++◌, length, take, drop, get_or, sym, ap, subst, ◌∙◌, inl, inr, arith, drop_more}
 use Rattle.xxhsum_line.proofs.Prelude.{take-append-drop, length-take-le, length-drop, get_or-take, get_or-drop, eqb_tells, Lacks, up_to_nul, without_return}
 use Rattle.memchr.specs.Find.{NoneAfter, NoneBefore, Nowhere, Passes}
 
@@ -10,6 +10,20 @@ lacks_right b (c ∷ x) y h = lacks_right b x y h.1
 pub lacks_both : (b : ℕ) (x y : List ℕ) → Lacks b x → Lacks b y → Lacks b (x ++ y)
 lacks_both b [] y h k = k
 lacks_both b (c ∷ x) y h k = (h.0, lacks_both b x y h.1 k)
+
+-- True if each byte passes the test.
+abbrev pub all_pass : (ℕ → Bool) → List ℕ → Bool
+all_pass test [] = true
+all_pass test (c ∷ cs) = test c && all_pass test cs
+
+-- Lemma: bytes that pass a test lack each byte that fails it.
+pub lacks_failing : (test : ℕ → Bool) (b : ℕ) (bytes : List ℕ) → test b ≡ false → all_pass test bytes ≡ true → Lacks b bytes
+lacks_failing test b [] fails all = tt
+lacks_failing test b (c ∷ cs) fails all =
+    let both = and_parts (test c) (all_pass test cs) all in (
+      λ e. let no : true ≡ false = sym both.0 ∙ ap test e ∙ fails in let none : ⊥ = cc in none,
+      lacks_failing test b cs fails both.1,
+    )
 
 pub lacks_not : (b : ℕ) (x y : List ℕ) → Lacks b (x ++ b ∷ y) → ⊥
 lacks_not b x y h = (lacks_right b x (b ∷ y) h).0 refl

@@ -1,26 +1,21 @@
 -- Proves that printed lines are accepted.
-use Rattle.xxhsum_line.proofs.Prelude.{◌≡◌, ◌≢◌, ℕ, ◌<◌, ◌+◌, ◌*◌, ◌^◌, Bool, true, false, List, [], ◌∷◌, ◌++◌, length, Some, inl, inr, refl, sym, ap, subst, ◌∙◌, arith, length-append, ◌≤◌, nat_lt, drop, ◌&&◌, if◌then◌else◌, and_parts}
+use Rattle.xxhsum_line.proofs.Prelude.{◌≡◌, ◌≢◌, ℕ, ◌<◌, ◌+◌, ◌*◌, ◌^◌, Bool, true, false, List, [], ◌∷◌, ◌++◌, length, Some, inl, inr, refl, sym, ap, subst, ◌∙◌, arith, length-append, ◌≤◌, nat_lt, drop, if◌then◌else◌, append_assoc}
 use Rattle.xxhsum_line.proofs.Prelude.{cond-false, ne_eqb, same_from_push, nat_tests, digits_of, Kind, X32, X64, X3_64, X3_128, value_shown, Says, SaysPlain, TextSays, is_comment, value_meant, body_of, escaped, is_escaped, mark_of}
 use Rattle.xxhsum_line.proofs.Prelude.{name_meant, needs_escape, unescaped, Lacks, up_to_nul, without_return, formed, full_tag, line_of, plain_text, prefix_of, shown, tagged_text, text_of, without_prefix, has_prefix, is_little_tag, kind_of_count}
 use Rattle.xxhsum_line.proofs.Prelude.{kind_of_digits, kind_of_tag}
-use Rattle.xxhsum_line.specs.Laws.{MessageIsOneLine, PlainTextsStay, PrintedIsAccepted, PrintedIsNoComment, PrintedIsOneLine}
+use Rattle.xxhsum_line.specs.Laws.{DigestsDiffer, MessageIsOneLine, PlainTextsStay, PrintedIsAccepted, PrintedIsNoComment, PrintedIsOneLine}
 use Rattle.xxhsum_line.specs.declared.printed.Shape.{Shape}
+use Rattle.xxhsum_line.proofs.EntryFacts.{text_says_same}
 use Rattle.xxhsum_line.proofs.EscapeFacts.{escape_is_undone, escaped_lacks_line_feed, escaped_length, escaped_lacks_nul, escaped_lacks_return, plain_names_stay}
-use Rattle.xxhsum_line.proofs.LackFacts.{lacks_both, up_to_nul_whole, without_return_whole}
+use Rattle.xxhsum_line.proofs.LackFacts.{all_pass, lacks_both, lacks_failing, up_to_nul_whole, without_return_whole}
 use Rattle.xxhsum_line.proofs.ShownFacts.{lacks_shown, length-shown, value_shown-shown}
 
 -- True if each byte is above the space.
 abbrev above_space : List ℕ → Bool
-above_space [] = true
-above_space (c ∷ cs) = nat_lt 32 c && above_space cs
+above_space l = all_pass (nat_lt 32) l
 
 lacks_up_to_space : (b : ℕ) (l : List ℕ) → b ≤ 32 → above_space l ≡ true → Lacks b l
-lacks_up_to_space b [] low h = tt
-lacks_up_to_space b (c ∷ l) low h =
-    let parts = and_parts (nat_lt 32 c) (above_space l) h in
-    let here : nat_lt 32 c ≡ true = parts.0 in
-    let differs : c ≢ b = λ e. grind (arith, nat_tests) in
-    (differs, lacks_up_to_space b l low parts.1)
+lacks_up_to_space b l low h = lacks_failing (nat_lt 32) b l (grind (arith, nat_tests, low)) h
 
 -- Lemma: the bytes of a tag are above the space. The tag determines its algorithm and byte order.
 tag_says : (kind : Kind) (is_little : Bool)
@@ -203,6 +198,16 @@ plain_says X32 is_little value name fits = counted_says X32 is_little value name
 plain_says X64 is_little value name fits = counted_says X64 is_little value name refl fits
 plain_says X3_64 is_little value name fits = prefixed_says is_little value name fits
 plain_says X3_128 is_little value name fits = counted_says X3_128 is_little value name refl fits
+
+pub digests_differ : DigestsDiffer
+digests_differ is_little kind kind' value value' fits fits' same =
+    let spaces : List ℕ = 32 ∷ 32 ∷ [] in
+    let lines : plain_text kind is_little value [] ≡ plain_text kind' is_little value' [] =
+    sym (append_assoc (prefix_of kind) (shown kind is_little value) spaces) ∙ ap (λ t. t ++ spaces) same
+    ∙ append_assoc (prefix_of kind') (shown kind' is_little value') spaces in
+    let says = subst (λ t. SaysPlain is_little t kind value []) lines (plain_says kind is_little value [] fits) in
+    let both = text_says_same is_little _ kind value [] kind' value' [] (inl says) (inl (plain_says kind' is_little value' [] fits')) in
+    (both.0, both.1)
 
 tagged_says : (kind : Kind) (is_little : Bool) (value : ℕ) (name : List ℕ) → value < 16 ^ digits_of kind
     → TextSays is_little (tagged_text kind is_little value name) kind value name

@@ -125,7 +125,7 @@ hex_differs : (b n : ℕ) → n < 16 → IsNoDigit b → hex_digit n ≢ b
 hex_differs b n small (inl low) = λ e. grind (arith, nat_tests)
 hex_differs b n small (inr between) = λ e. grind (arith, nat_tests)
 
-lacks_hex : (b n value : ℕ) → IsNoDigit b → Lacks b (hex_digits n value)
+pub lacks_hex : (b n value : ℕ) → IsNoDigit b → Lacks b (hex_digits n value)
 lacks_hex b zero value none = tt
 lacks_hex b (suc n) value none =
     let low : value % 16 < 16 = omega arith in

@@ -5,7 +5,7 @@ use Rattle.xxh_io.specs.declared.kind.Kind.{Kind}
 use Rattle.xxhsum_line.specs.Entry.{Says, is_comment}
 use Rattle.xxhsum_line.specs.Escapes.{escaped, needs_escape, one_line, unescaped}
 use Rattle.xxhsum_line.specs.Parts.{IsPlain, IsTagged, Lacks}
-use Rattle.xxhsum_line.specs.Printed.{text_of}
+use Rattle.xxhsum_line.specs.Printed.{digest_text, text_of}
 use Rattle.xxhsum_line.specs.declared.printed.Shape.{Shape}
 
 -- A printed line means the entry that it was printed from, if the value fits the algorithm and the name has no NUL.
@@ -49,6 +49,12 @@ SaysOneThing =
     (is_little : Bool) (line : List ℕ) (kind kind' : Kind) (value value' : ℕ) (name name' : List ℕ)
     → Says is_little line kind value name → Says is_little line kind' value' name'
     → (kind ≡ kind') × (value ≡ value') × (name ≡ name')
+
+-- Two digests with the same text are the same, if both fit their algorithms.
+abbrev pub DigestsDiffer : Type 0
+DigestsDiffer =
+    (is_little : Bool) (kind kind' : Kind) (value value' : ℕ) → value < 16 ^ digits_of kind → value' < 16 ^ digits_of kind'
+    → digest_text kind is_little value ≡ digest_text kind' is_little value' → (kind ≡ kind') × (value ≡ value')
 
 -- A line has at most one form, and at most one split into parts.
 abbrev pub PlainPartsAreOne : Type 0

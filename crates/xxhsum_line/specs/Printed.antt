@@ -21,6 +21,10 @@ prefix_of X32 = []
 prefix_of X64 = []
 prefix_of X3_128 = []
 
+-- The digest in a plain line: the prefix and the digits.
+abbrev pub digest_text : Kind → Bool → ℕ → List ℕ
+digest_text kind is_little value = prefix_of kind ++ shown kind is_little value
+
 -- A plain line: the prefix, the digits, two spaces and the name.
 abbrev pub plain_text : Kind → Bool → ℕ → List ℕ → List ℕ
 plain_text kind is_little value name = prefix_of kind ++ (shown kind is_little value ++ 32 ∷ 32 ∷ name)

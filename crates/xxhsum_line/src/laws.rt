@@ -3,7 +3,7 @@
 ghost use Rattle.std.specs.Prelude.{◌≡◌, ◌<◌, ◌^◌, true, IfOk};
 ghost use Rattle.xxh_io.specs.Kind.{digits_of};
 ghost use Rattle.xxhsum_line.specs.Entry.{Says};
-ghost use Rattle.xxhsum_line.specs.Laws.{EscapeIsUndone, MessageIsOneLine, NotBothForms, PlainNamesStay, PlainPartsAreOne, PlainTextsStay, PrintedIsAccepted, PrintedIsNoComment, PrintedIsOneLine, SaysOneThing, TaggedPartsAreOne};
+ghost use Rattle.xxhsum_line.specs.Laws.{DigestsDiffer, EscapeIsUndone, MessageIsOneLine, NotBothForms, PlainNamesStay, PlainPartsAreOne, PlainTextsStay, PrintedIsAccepted, PrintedIsNoComment, PrintedIsOneLine, SaysOneThing, TaggedPartsAreOne};
 ghost use Rattle.xxhsum_line.specs.Parts.{Lacks};
 
 use crate::entry::{Entry, Meaning, meaning_of};
@@ -13,7 +13,7 @@ use xxh_io::kind::Kind;
 
 /// Lemma (no code), the laws of lines: what is printed is accepted; a printed line is one line and no comment; a text
 /// that is reported as one line is one, whatever names it has; an escape is undone; a line has at most one choice of
-/// parts, and at most one meaning.
+/// parts, and at most one meaning; two digests have two texts.
 pub fn laws_of_lines()
     ensures printed_is_accepted { PrintedIsAccepted }
     ensures printed_is_one_line { PrintedIsOneLine }
@@ -23,6 +23,7 @@ pub fn laws_of_lines()
     ensures escape_is_undone { EscapeIsUndone }
     ensures plain_names_stay { PlainNamesStay }
     ensures says_one_thing { SaysOneThing }
+    ensures digests_differ { DigestsDiffer }
     ensures plain_parts_are_one { PlainPartsAreOne }
     ensures tagged_parts_are_one { TaggedPartsAreOne }
     ensures not_both_forms { NotBothForms }

@@ -1,7 +1,7 @@
 //! The lines that are printed.
 
 ghost use Rattle.std.specs.Prelude.{◌≡◌, ◌++◌, IfOk};
-ghost use Rattle.xxhsum_line.specs.Printed.{formed, line_of, name_shown, plain_text, prefix_of, shown, styled_line, tagged_text};
+ghost use Rattle.xxhsum_line.specs.Printed.{digest_text, formed, line_of, name_shown, plain_text, prefix_of, shown, styled_line, tagged_text};
 
 use crate::digits::{MOST_DIGITS, in_order};
 use crate::escapes::{put_escaped, put_mark};
@@ -107,8 +107,7 @@ fn put_plain(
     ensures { IfOk result (λ _. line.new.items
         ≡ line.old.items ++ plain_text kind is_little value (name_shown is_raw name.now)) }
 {
-    line.extend_from_slice(prefix_of(kind))?;
-    put_value(line, kind, is_little, value)?;
+    put_digest(line, kind, is_little, value)?;
     line.extend_from_slice(b"  ")?;
     put_name(line, name, is_raw)
 }
@@ -131,6 +130,20 @@ fn put_tagged(
     line.extend_from_slice(b" (")?;
     put_name(line, name, is_raw)?;
     line.extend_from_slice(b") = ")?;
+    put_value(line, kind, is_little, value)
+}
+
+/// Appends the digest as in a plain line: the prefix and the digits. Returns `AllocError` if out of memory.
+pub fn put_digest(
+    line: &mut Vec<u8>,
+    kind: Kind,
+    is_little: bool,
+    value: u128,
+) -> Result<(), AllocError>
+    ensures { IfOk result (λ _. line.new.items
+        ≡ line.old.items ++ digest_text kind is_little value) }
+{
+    line.extend_from_slice(prefix_of(kind))?;
     put_value(line, kind, is_little, value)
 }
 

@@ -3,7 +3,7 @@ use Rattle.std.specs.Prelude.{ℕ, ◌+◌, ◌-◌, ◌==◌, Bool, not, List, 
 use Rattle.std.specs.List.{list_any}
 use Rattle.xxh_io.specs.declared.kind.Kind.{Kind}
 use Rattle.xxhsum_options.specs.declared.options.ParsedArgs.{ParsedArgs}
-use Rattle.xxhsum_options.specs.declared.options.ParsedArgs.TheVariants.{Run, WrongOption, NulsInList, ExcludeWithoutWalk, SlashInPattern, InputBesideNames, WalkBesideLists, WalkOfNothing}
+use Rattle.xxhsum_options.specs.declared.options.ParsedArgs.TheVariants.{Run, WrongOption, NulsInList, FormatWithoutAudit, NulsInJson, ExcludeWithoutWalk, SlashInPattern, InputBesideNames, WalkBesideLists, WalkOfNothing}
 use Rattle.xxhsum_options.specs.declared.options.NamesFrom.{NamesFrom}
 use Rattle.xxhsum_options.specs.declared.options.NamesFrom.TheVariants.{Words, Lines, Nuls}
 use Rattle.xxhsum_options.specs.declared.options.Options.{Options}
@@ -28,6 +28,9 @@ no_options kind = record {
   is_little_endian = false;
   ends_in_nul = false;
   audits = false;
+  has_format = false;
+  awaits_format = false;
+  is_json = false;
   walks = false;
   excludes = false;
   awaits_pattern = false;
@@ -41,15 +44,29 @@ pattern_step options pattern =
     if list_any (λ byte. byte == 47) pattern then Settles SlashInPattern
     else Takes (record options { excludes = true; awaits_pattern = false })
 
--- The effect of an argument on these options.
-abbrev pub word_step : Options → List ℕ → Step
-word_step options word =
-    if options.awaits_pattern then pattern_step options word
-    else if begins_with (codes "--exclude=") word then pattern_step options (drop 10 word)
-    else if begins_with (codes "--") word then of_name ROWS options (drop 2 word)
+-- The effect of a value of `--format` on these options: `json` or `text`.
+abbrev pub format_step : Options → List ℕ → Step
+format_step options value =
+    let is_json = bytes_eq value (codes "json") in
+    if not is_json && not (bytes_eq value (codes "text")) then IsWrong
+    else Takes (record options { has_format = true; awaits_format = false; is_json = is_json })
+
+-- The effect of an argument that is no value on these options.
+abbrev pub dash_step : Options → List ℕ → Step
+dash_step options word =
+    if begins_with (codes "--") word then of_name ROWS options (drop 2 word)
     else if bytes_eq word (codes "-") then Takes (record options { takes_terminal = true })
     else if begins_with (codes "-") word then letters_step 0 options (drop 1 word)
     else EndsBefore
+
+-- The effect of an argument on these options.
+unfoldable pub word_step : Options → List ℕ → Step
+word_step options word =
+    if options.awaits_pattern then pattern_step options word
+    else if begins_with (codes "--exclude=") word then pattern_step options (drop 10 word)
+    else if options.awaits_format then format_step options word
+    else if begins_with (codes "--format=") word then format_step options (drop 9 word)
+    else dash_step options word
 
 -- True if the names are read from lists of names.
 abbrev pub are_listed : NamesFrom → Bool
@@ -76,12 +93,14 @@ leaves_input options names =
     have_input names || (options.takes_terminal && nat_lt (lists_before options) (length names))
 
 -- The run with these options. Its names are the arguments from index `at` on. `--exclude` is refused without a pattern or
--- without `-r`. `-z` is refused with `-c`. `-r` is refused with `-c`, with lists of names, or without a name. `-` is
--- refused with names.
-abbrev pub run_from : Options → ℕ → List (List ℕ) → ParsedArgs
+-- without `-r`, `--format` without a value or without `--audit`. `-z` is refused with `-c` or `--format=json`. `-r` is
+-- refused with `-c`, with lists of names, or without a name. `-` is refused with names.
+unfoldable pub run_from : Options → ℕ → List (List ℕ) → ParsedArgs
 run_from options at names =
-    if options.awaits_pattern then WrongOption (at - 1)
+    if options.awaits_pattern || options.awaits_format then WrongOption (at - 1)
     else if options.ends_in_nul && options.checks then NulsInList
+    else if options.has_format && not options.audits then FormatWithoutAudit
+    else if options.is_json && options.ends_in_nul then NulsInJson
     else if options.excludes && not options.walks then ExcludeWithoutWalk
     else if options.walks && (options.checks || are_listed options.names_from) then WalkBesideLists
     else if options.walks && nat_le (length names) (lists_audited options) then WalkOfNothing

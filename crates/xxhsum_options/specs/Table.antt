@@ -6,12 +6,13 @@ use Rattle.xxhsum_options.specs.declared.options.Options.{Options}
 use Rattle.xxhsum_options.specs.declared.options.Step.{Step}
 use Rattle.xxhsum_options.specs.declared.options.Step.TheVariants.{EndsAfter, IsWrong, Settles, Takes}
 use Rattle.xxhsum_options.specs.declared.table.Action.{Action}
-use Rattle.xxhsum_options.specs.declared.table.Action.TheVariants.{Checks, Audits, Walks, Excludes, Lists, Tags, TurnsRound, EndsInNul, Nothing, Quiets, Silences, IgnoresMissing, IsStrict, Warns, EndsOptions, Returns}
+use Rattle.xxhsum_options.specs.declared.table.Action.TheVariants.{Checks, Audits, Formats, Walks, Excludes, Lists, Tags, TurnsRound, EndsInNul, Nothing, Quiets, Silences, IgnoresMissing, IsStrict, Warns, EndsOptions, Returns}
 
 -- The effect of an option on these options.
 abbrev pub action_step : Action → Options → Step
 action_step Checks options = Takes (record options { checks = true })
 action_step Audits options = Takes (record options { audits = true })
+action_step Formats options = Takes (record options { awaits_format = true })
 action_step Walks options = Takes (record options { walks = true })
 action_step Excludes options = Takes (record options { awaits_pattern = true })
 action_step (Lists from) options = Takes (record options { names_from = from })

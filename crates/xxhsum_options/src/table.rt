@@ -12,6 +12,8 @@ pub enum Action {
     Checks,
     /// The first name is a checksum list, with which the other files are compared.
     Audits,
+    /// The argument after it is the form of an audit's results.
+    Formats,
     /// Directories are walked: their names mean the files below them.
     Walks,
     /// The argument after it is a pattern: names in directories that match it are skipped.
@@ -47,7 +49,7 @@ pub const NO_LETTER: u8 = b'-';
 
 /// All options except those whose letter takes a number: the letter after `-`, the name after `--`, its effect, and its
 /// text in the help, which is empty if the help has no line for it.
-pub const ROWS: [(u8, &str, Action, &str); 21] = [
+pub const ROWS: [(u8, &str, Action, &str); 22] = [
     (
         b'c',
         "check",
@@ -59,6 +61,12 @@ pub const ROWS: [(u8, &str, Action, &str); 21] = [
         "audit",
         Action::Audits,
         "             compare the FILEs with the first one, a checksum list",
+    ),
+    (
+        b'-',
+        "format",
+        Action::Formats,
+        " FORMAT     with --audit: print text, the default, or json, an object per line",
     ),
     (
         b'r',
@@ -217,6 +225,7 @@ fn action_step(action: Action, mut options: Options) -> Step
     match action {
         Action::Checks => options.checks = true,
         Action::Audits => options.audits = true,
+        Action::Formats => options.awaits_format = true,
         Action::Walks => options.walks = true,
         Action::Excludes => options.awaits_pattern = true,
         Action::Lists(from) => options.names_from = from,

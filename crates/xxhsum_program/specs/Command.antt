@@ -10,7 +10,7 @@ use Rattle.xxhsum_options.specs.Options.{are_listed, parsed_args}
 use Rattle.xxhsum_options.specs.Table.{rows_text}
 use Rattle.xxhsum_options.specs.declared.table.TheConstants.{ROWS}
 use Rattle.xxhsum_options.specs.declared.options.ParsedArgs.{ParsedArgs}
-use Rattle.xxhsum_options.specs.declared.options.ParsedArgs.TheVariants.{Run, Benchmark, Version, Help, WrongOption, NulsInList, WalkBesideLists, WalkOfNothing, ExcludeWithoutWalk, SlashInPattern, InputBesideNames, NumberTooLarge}
+use Rattle.xxhsum_options.specs.declared.options.ParsedArgs.TheVariants.{Run, Benchmark, Version, Help, WrongOption, NulsInList, FormatWithoutAudit, NulsInJson, WalkBesideLists, WalkOfNothing, ExcludeWithoutWalk, SlashInPattern, InputBesideNames, NumberTooLarge}
 
 -- A text that is printed, or reported as an error, or a run that reads files: its options, its patterns of `--exclude`,
 -- and its names.
@@ -59,6 +59,8 @@ answer_text program words Benchmark = one_line (concat (program ∷ NO_BENCHMARK
 answer_text program words (WrongOption at) =
     wrong_text (concat (codes "Wrong parameters: '" ∷ get_or words at [] ∷ codes "'" ∷ [])) program
 answer_text program words NulsInList = wrong_text (codes "Wrong parameters: '-z' with '-c'") program
+answer_text program words FormatWithoutAudit = wrong_text (codes "Wrong parameters: '--format' without '--audit'") program
+answer_text program words NulsInJson = wrong_text (codes "Wrong parameters: '-z' with '--format=json'") program
 answer_text program words WalkBesideLists =
     wrong_text (codes "Wrong parameters: '-r' with '-c' or lists of names") program
 answer_text program words WalkOfNothing = wrong_text (codes "Wrong parameters: '-r' without a FILE") program

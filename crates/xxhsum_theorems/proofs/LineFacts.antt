@@ -4,14 +4,15 @@ use Rattle.std.specs.Fmt.{digit_glyph, digits, digits_onto}
 use Rattle.std.proofs.lemmas.List.Folds.{concat-append}
 use Rattle.xxhsum_app.specs.Names.{ListNone}
 use Rattle.xxhsum_app.specs.ReadList.{IsFault, ListSaysNothing, SourceSaysNothing}
-use Rattle.xxhsum_app.specs.Report.{class_text, counts_text, is_same, remarks_of, report_text, shown_text, shown_texts}
+use Rattle.xxhsum_app.specs.Report.{class_text, counts_text, formed_text, has_objects, is_same, remarks_of, report_text, shown_text, shown_texts}
 use Rattle.xxhsum_app.specs.Texts.{Breaks, HasNoText, LackText}
 use Rattle.xxhsum_audit.proofs.TextFacts.{each-words}
 use Rattle.xxhsum_audit.specs.Found.{Changed, Copied, Found, Missing, Moved, New, Same}
+use Rattle.xxhsum_audit.specs.Json.{ObjectIsOneLine, remark_json}
 use Rattle.xxhsum_audit.specs.Text.{Classed, HasNoNul, OtherLacks, Remark, RemarkIsOneLine, Unreadable, other_record, remark_text, told_name, told_other, told_words}
 use Rattle.xxhsum_audit.specs.declared.verdict.Class.{Class}
 use Rattle.xxhsum_audit.specs.declared.verdict.Class.TheVariants as Of
-use Rattle.xxhsum_line.proofs.LackFacts.{lacks_both}
+use Rattle.xxhsum_line.proofs.LackFacts.{all_pass, lacks_both, lacks_failing}
 use Rattle.xxhsum_line.specs.Laws.{IsOneLine, MessageIsOneLine}
 use Rattle.xxhsum_line.specs.Parts.{Lacks}
 use Rattle.xxhsum_program.specs.CheckList.{Checked, ListOutcome, Unopened, outcome_events}
@@ -23,7 +24,7 @@ use Rattle.xxhsum_program.specs.Prelude.{AllByRecursion, Files, Input, Options, 
 use Rattle.xxhsum_program.specs.declared.check.Report.{Report}
 use Rattle.xxhsum_program.specs.Report.{has_no_line, is_unverified}
 use Rattle.xxhsum_program.specs.Run.{input_name}
-use Rattle.std.specs.Prelude.{◌&&◌, ◌||◌, nat_le}
+use Rattle.std.specs.Prelude.{◌&&◌, ◌||◌, nat_le, not}
 use Rattle.std.proofs.Common.{◌<◌}
 use Rattle.std.proofs.lemmas.Bool.{and_parts}
 use Rattle.std.proofs.lemmas.Bool.Decides.{nat_tests}
@@ -70,14 +71,10 @@ lines-if test x y a b = parts-if IsOneLine test x y a b
 
 -- True if no byte is a control character.
 abbrev are_plain : List ℕ → Bool
-are_plain [] = true
-are_plain (c ∷ cs) = nat_le 32 c && are_plain cs
+are_plain bytes = all_pass (nat_le 32) bytes
 
 without : (b : ℕ) (bytes : List ℕ) → b < 32 → are_plain bytes ≡ true → Lacks b bytes
-without b [] low is = tt
-without b (c ∷ cs) low is =
-    let both = and_parts (nat_le 32 c) (are_plain cs) is in
-    ((λ e. let no : ⊥ = grind (arith, nat_tests, both.0, low, e) in no), without b cs low both.1)
+without b bytes low is = lacks_failing (nat_le 32) b bytes (grind (arith, nat_tests, low)) is
 
 -- ---- numbers
 
@@ -266,46 +263,54 @@ counts-lack b low found unread =
     (decimal-lacks b low (length unread)))
     (without b (codes " unreadable") low refl)
 
-counts-end : (options : Options) (found : List Found) (unread : List (List ℕ)) (nul : Bool) → options.ends_in_nul ≡ nul
-    → counts_text options found unread ≡ counts_before found unread ++ (if nul then 0 else 10) ∷ []
-counts-end options found unread nul is =
-    ap (λ (nul : Bool). counts_before found unread ++ (if nul then 0 else 10) ∷ []) is
-
-counts-line : (options : Options) (found : List Found) (unread : List (List ℕ)) → options.ends_in_nul ≡ false → IsOneLine (counts_text options found unread)
-counts-line options found unread speaks =
-    (counts_before found unread, counts-end options found unread false speaks, counts-lack 10 (omega arith) found unread)
+-- Lemma: the counts are one part that ends with this byte, or none.
+counts-whole : (is_one : List ℕ → Type 0) (options : Options) (found : List Found) (unread : List (List ℕ)) (end : ℕ) → (if options.ends_in_nul then 0 else 10) ≡ end
+    → is_one (counts_before found unread ++ end ∷ []) → AreWhole is_one (counts_text options found unread)
+counts-whole is_one options found unread end is one =
+    parts-if is_one (has_objects options) [] _ (no-part is_one)
+    (one-part is_one _ (subst (λ (e : ℕ). is_one (counts_before found unread ++ e ∷ [])) (sym is) one))
 
 -- Lemma: shown results are whole if each result is.
-shown-whole : (is_one : List ℕ → Type 0) (nul : Bool) (options : Options) → options.ends_in_nul ≡ nul
-    → (remarks : List Remark) → AllByRecursion (λ one. AreWhole is_one (remark_text nul one)) remarks → AreWhole is_one (shown_texts options remarks)
-shown-whole is_one nul options ends [] all = no-part is_one
-shown-whole is_one nul options ends (one ∷ remarks) all =
+shown-whole : (is_one : List ℕ → Type 0) (options : Options) (remarks : List Remark)
+    → AllByRecursion (λ one. AreWhole is_one (formed_text options one)) remarks → AreWhole is_one (shown_texts options remarks)
+shown-whole is_one options [] all = no-part is_one
+shown-whole is_one options (one ∷ remarks) all =
     parts-both is_one (shown_text options one) (shown_texts options remarks)
-    (parts-if is_one (options.is_quiet && is_same one) [] (remark_text options.ends_in_nul one) (no-part is_one)
-    (subst (λ nul. AreWhole is_one (remark_text nul one)) (sym ends) all.0))
-    (shown-whole is_one nul options ends remarks all.1)
+    (parts-if is_one (options.is_quiet && is_same one) [] (formed_text options one) (no-part is_one) all.0) (shown-whole is_one options remarks all.1)
 
-each-line : RemarkIsOneLine → (remarks : List Remark) → AllByRecursion (λ one. AreLines (remark_text false one)) remarks
-each-line line [] = tt
-each-line line (one ∷ remarks) = (a-line _ (line one), each-line line remarks)
+each-line : RemarkIsOneLine → ObjectIsOneLine → (options : Options) → options.ends_in_nul ≡ false
+    → (remarks : List Remark) → AllByRecursion (λ one. AreLines (formed_text options one)) remarks
+each-line line object options ends [] = tt
+each-line line object options ends (one ∷ remarks) = (
+  lines-if (has_objects options) _ _ (a-line _ (object options.is_little_endian one))
+      (a-line _ (subst (λ nul. IsOneLine (remark_text nul one)) (sym ends) (line one))),
+  each-line line object options ends remarks,
+)
 
 -- Lemma: a report is whole if its results and its counts are.
-report-whole : (is_one : List ℕ → Type 0) (nul : Bool) (options : Options) (found : List Found) (unread : List (List ℕ)) → options.ends_in_nul ≡ nul
-    → AllByRecursion (λ one. AreWhole is_one (remark_text nul one)) (remarks_of found unread) → is_one (counts_text options found unread)
+report-whole : (is_one : List ℕ → Type 0) (options : Options) (found : List Found) (unread : List (List ℕ))
+    → AllByRecursion (λ one. AreWhole is_one (formed_text options one)) (remarks_of found unread) → AreWhole is_one (counts_text options found unread)
     → AreWhole is_one (report_text options found unread)
-report-whole is_one nul options found unread ends all counts =
+report-whole is_one options found unread all counts =
     parts-if is_one options.is_status_only [] _ (no-part is_one)
     (parts-both is_one (shown_texts options (remarks_of found unread)) (counts_text options found unread)
-    (shown-whole is_one nul options ends (remarks_of found unread) all) (one-part is_one _ counts))
+    (shown-whole is_one options (remarks_of found unread) all) counts)
 
-pub report_is_lines : RemarkIsOneLine → (options : Options) (found : List Found) (unread : List (List ℕ)) → options.ends_in_nul ≡ false → AreLines (report_text options found unread)
-report_is_lines line options found unread ends =
-    report-whole IsOneLine false options found unread ends (each-line line (remarks_of found unread)) (counts-line options found unread ends)
+pub report_is_lines : RemarkIsOneLine → ObjectIsOneLine → (options : Options) (found : List Found) (unread : List (List ℕ)) → options.ends_in_nul ≡ false
+    → AreLines (report_text options found unread)
+report_is_lines line object options found unread ends =
+    report-whole IsOneLine options found unread (each-line line object options ends (remarks_of found unread))
+    (counts-whole IsOneLine options found unread 10 (ap (λ (nul : Bool). if nul then 0 else 10) ends)
+    (counts_before found unread, refl, counts-lack 10 (omega arith) found unread))
 
 -- ---- records that end with a NUL
 
 words-plain : (r : Remark) → are_plain (told_words r) ≡ true
 words-plain = each-words (λ words. are_plain words ≡ true) refl refl refl refl refl refl refl
+
+never : (test : Bool) → (test && false) ≡ false
+never true = refl
+never false = refl
 
 other-records : (o : Option (List ℕ)) → OtherLacks 0 o → AreRecords (other_record o)
 other-records None lacks = no-part IsOneRecord
@@ -320,12 +325,19 @@ remark_is_records r lacks =
     (parts-both IsOneRecord (first ++ 0 ∷ []) other
     (one-part IsOneRecord (first ++ 0 ∷ []) (first, refl, lacks_both 0 (told_name r) (58 ∷ 32 ∷ told_words r) lacks.0 plain)) (other-records (told_other r) lacks.1))
 
-each-record : (remarks : List Remark) → AllByRecursion HasNoNul remarks → AllByRecursion (λ one. AreRecords (remark_text true one)) remarks
-each-record [] all = tt
-each-record (one ∷ remarks) all = (remark_is_records one all.0, each-record remarks all.1)
+each-record : (options : Options) → options.ends_in_nul ≡ true
+    → (remarks : List Remark) → AllByRecursion HasNoNul remarks → AllByRecursion (λ one. AreRecords (formed_text options one)) remarks
+each-record options ends [] all = tt
+each-record options ends (one ∷ remarks) all = (
+  subst (λ nul. AreRecords (if options.is_json && not nul then remark_json options.is_little_endian one else remark_text nul one)) (sym ends)
+      (subst (λ test. AreRecords (if test then remark_json options.is_little_endian one else remark_text true one)) (sym (never options.is_json))
+      (remark_is_records one all.0)),
+  each-record options ends remarks all.1,
+)
 
 pub report_is_records : (options : Options) (found : List Found) (unread : List (List ℕ)) → options.ends_in_nul ≡ true
     → AllByRecursion HasNoNul (remarks_of found unread) → AreRecords (report_text options found unread)
 report_is_records options found unread ends all =
-    report-whole IsOneRecord true options found unread ends (each-record (remarks_of found unread) all)
-    (counts_before found unread, counts-end options found unread true ends, counts-lack 0 (omega arith) found unread)
+    report-whole IsOneRecord options found unread (each-record options ends (remarks_of found unread) all)
+    (counts-whole IsOneRecord options found unread 0 (ap (λ (nul : Bool). if nul then 0 else 10) ends)
+    (counts_before found unread, refl, counts-lack 0 (omega arith) found unread))

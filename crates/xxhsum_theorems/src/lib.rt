@@ -3,7 +3,7 @@
 //! proved from the public contracts of the crates `xxhsum_*`.
 #![tactic(auto)]
 
-ghost use Rattle.std.specs.Prelude.{◌≡◌, ◌↔◌, ◌++◌, Bool, List, ℕ, Option, Result, true, false, codes, IsPermutation};
+ghost use Rattle.std.specs.Prelude.{◌≡◌, ◌<◌, ◌^◌, ◌↔◌, ◌++◌, Bool, List, ℕ, Option, Result, true, false, codes, IsPermutation};
 ghost use Rattle.std.specs.List.{AllByRecursion, flat_map};
 ghost use Rattle.xxhsum_program.specs.Prelude.{EachHas, Eprints, Kind, Options, Refused, Shape, Style, Took};
 ghost use Rattle.xxhsum_program.specs.declared.streams.Streams.{Streams};
@@ -14,7 +14,8 @@ ghost use Rattle.xxhsum_audit.specs.Audit.{IsAudit};
 ghost use Rattle.xxhsum_audit.specs.Item.{HasSameDigest, IsAmong, Item};
 ghost use Rattle.xxhsum_audit.specs.Laws.{IsKept, IsRight};
 ghost use Rattle.xxhsum_audit.specs.Found.{Copied, Found, Missing, New, Same, line_in, name_in};
-ghost use Rattle.xxhsum_audit.specs.Text.{HasNoNul, IsSameRemark, Remark, remark_text};
+ghost use Rattle.xxhsum_audit.specs.Json.{digits_in, remark_json, told_actual, told_listed, told_state};
+ghost use Rattle.xxhsum_audit.specs.Text.{HasNoNul, IsSameRemark, Remark, remark_text, told_name, told_other};
 ghost use Rattle.xxhsum_app.specs.Audits.{duplicate_text};
 ghost use Rattle.xxhsum_app.specs.Names.{ListNone};
 ghost use Rattle.xxhsum_app.specs.ReadList.{ListSaysNothing};
@@ -26,6 +27,8 @@ ghost use Rattle.xxhsum_theorems.specs.LineLaws.{AreLines, AreRecords, IsListLin
 ghost use Rattle.xxhsum_line.specs.Entry.{Says};
 ghost use Rattle.xxhsum_line.specs.Escapes.{one_line};
 ghost use Rattle.xxhsum_line.specs.Laws.{IsOneLine};
+ghost use Rattle.xxhsum_line.specs.Printed.{digest_text};
+ghost use Rattle.xxh_io.specs.Kind.{digits_of};
 ghost use Rattle.xxhsum_program.specs.CheckList.{EndsAs, ListOutcome, SaysList, outcome_events};
 ghost use Rattle.xxhsum_program.specs.Findings.{Finding, IsFinding};
 ghost use Rattle.xxhsum_program.specs.GoodList.{IsWell};
@@ -111,8 +114,9 @@ pub fn each_stream<W: Sink, E: Sink>()
 /// Whatever bytes names have, each message and each printed result is one line, so no name can forge one, for example
 /// one that reports another file as `OK`. The outcome of a name is one line and no message, or one message and no line.
 /// A line of a list has the same, or neither. The check of a list writes whole lines. The message about a list without
-/// entries or names has one of the four forms of [`IsListMessage`]. Each result of an audit is one line, and its report
-/// is whole lines. With `-z`, they are whole records instead, each ended by its only NUL, if no name has a NUL.
+/// entries or names has one of the four forms of [`IsListMessage`]. Each result of an audit is one line, also as a JSON
+/// object, and its report is whole lines. With `-z`, they are whole records instead, each ended by its only NUL, if no
+/// name has a NUL.
 pub fn one_line_a_name<S: Store, R: Source>()
     ensures names { (kind : Kind) (shape : Shape) (name : List ℕ) (outcome : Outcome)
         → IsLineOrMessage (name_events kind (plain_style shape) name outcome) }
@@ -129,6 +133,8 @@ pub fn one_line_a_name<S: Store, R: Source>()
         → (name : List ℕ) × IsListLine name message) }
     ensures twice { (among name : List ℕ) → IsOneLine (one_line (duplicate_text among name)) }
     ensures audits { (remark : Remark) → IsOneLine (remark_text false remark) }
+    ensures objects { (is_little : Bool) (remark : Remark)
+        → IsOneLine (remark_json is_little remark) }
     ensures reports { (options : Options) (found : List Found) (unread : List (List ℕ))
         → options.ends_in_nul ≡ false → AreLines (report_text options found unread) }
     ensures records { (remark : Remark) → HasNoNul remark → AreRecords (remark_text true remark) }
@@ -210,7 +216,9 @@ pub fn audit_classes()
 }
 
 /// No two results of an audit have one text. Two results with one line have the same name, class and other name. So
-/// have two with one record that ends with a NUL (`-z`), whatever follows it, if no name has a NUL.
+/// have two with one record that ends with a NUL (`-z`), whatever follows it, if no name has a NUL. Two results with one
+/// JSON object, whatever follows it, have the same name, state, other name and digests; and two digests with the same
+/// digits are by one algorithm and have one value, if both fit.
 pub fn audit_texts_differ()
     ensures lines { (a b : Remark) (behind behind' : List ℕ)
         → remark_text false a ++ behind ≡ remark_text false b ++ behind'
@@ -218,7 +226,19 @@ pub fn audit_texts_differ()
     ensures records { (a b : Remark) (behind behind' : List ℕ) → HasNoNul a → HasNoNul b
         → remark_text true a ++ behind ≡ remark_text true b ++ behind'
         → IsSameRemark a b × (behind ≡ behind') }
+    ensures objects { (is_little : Bool) (a b : Remark) (behind behind' : List ℕ)
+        → remark_json is_little a ++ behind ≡ remark_json is_little b ++ behind'
+        → (told_name a ≡ told_name b) × (told_state a ≡ told_state b)
+        × (told_other a ≡ told_other b)
+        × (digits_in is_little (told_listed a) ≡ digits_in is_little (told_listed b))
+        × (digits_in is_little (told_actual a) ≡ digits_in is_little (told_actual b))
+        × (behind ≡ behind') }
+    ensures digests { (is_little : Bool) (kind kind' : Kind) (value value' : ℕ)
+        → value < 16 ^ digits_of kind → value' < 16 ^ digits_of kind'
+        → digest_text kind is_little value ≡ digest_text kind' is_little value'
+        → (kind ≡ kind') × (value ≡ value') }
 {
+    laws_of_lines();
     laws_of_texts();
 }
 

@@ -19,7 +19,8 @@ returns g c =
       );
       twice = λ among name. message (duplicate_text among name);
       audits = c.laws_of_texts.ensures.one_line;
-      reports = λ options found unread speaks. report_is_lines c.laws_of_texts.ensures.one_line options found unread speaks;
+      objects = c.laws_of_texts.ensures.one_object;
+      reports = λ options found unread speaks. report_is_lines c.laws_of_texts.ensures.one_line c.laws_of_texts.ensures.one_object options found unread speaks;
       records = remark_is_records;
       reports_of_records = report_is_records;
     }

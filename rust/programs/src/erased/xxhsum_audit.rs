@@ -6,6 +6,7 @@
 //! lists and names.
 
 pub mod digest;
+pub mod json;
 pub mod laws;
 pub mod list;
 pub mod moves;

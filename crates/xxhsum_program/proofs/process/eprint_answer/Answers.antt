@@ -15,6 +15,12 @@ returns-in-WrongOption g c = rw c.in-WrongOption.is (rw c.word_at.ensures at c.e
 pub returns-in-NulsInList : goal.returns-in-NulsInList
 returns-in-NulsInList g c = rw c.in-NulsInList.is c.eprint_wrong-in-NulsInList.ensures
 
+pub returns-in-FormatWithoutAudit : goal.returns-in-FormatWithoutAudit
+returns-in-FormatWithoutAudit g c = rw c.in-FormatWithoutAudit.is c.eprint_wrong-in-FormatWithoutAudit.ensures
+
+pub returns-in-NulsInJson : goal.returns-in-NulsInJson
+returns-in-NulsInJson g c = rw c.in-NulsInJson.is c.eprint_wrong-in-NulsInJson.ensures
+
 pub returns-in-WalkBesideLists : goal.returns-in-WalkBesideLists
 returns-in-WalkBesideLists g c = rw c.in-WalkBesideLists.is c.eprint_wrong-in-WalkBesideLists.ensures
 

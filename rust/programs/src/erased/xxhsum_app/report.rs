@@ -7,6 +7,7 @@ use crate::rattle::prelude::Vec;
 use crate::rattle::itoa::Buffer;
 use crate::rattle::{AllocError, Global};
 use crate::programs::xxh_io::streams::Sink;
+use crate::programs::xxhsum_audit::json::{unreadable_json, verdict_json};
 use crate::programs::xxhsum_audit::text::{unreadable_text, verdict_text};
 use crate::programs::xxhsum_audit::verdict::{Class, Verdict, count_of};
 use crate::programs::xxhsum_options::options::Options;
@@ -66,7 +67,7 @@ fn print_one<W: Sink>(
     if options.is_quiet && verdict.class() == Class::Same {
         return Ok(());
     }
-    let text = verdict_text(alloc, verdict, options.ends_in_nul)?;
+    let text = formed_verdict(alloc, options, verdict)?;
     print(&text, out)
 }
 
@@ -77,11 +78,38 @@ fn print_name<W: Sink>(
     name: &[u8],
     out: &mut W,
 ) -> Result<(), Stop> {
-    let text = unreadable_text(alloc, name, options.ends_in_nul)?;
+    let text = formed_name(alloc, options, name)?;
     print(&text, out)
 }
 
-// Returns the text with the count of each class.
+// True if results are JSON objects.
+fn has_objects(options: Options) -> bool {
+    options.is_json && !options.ends_in_nul
+}
+
+// Returns the text of a verdict.
+fn formed_verdict(
+    alloc: Global,
+    options: Options,
+    verdict: Verdict<'_>,
+) -> Result<Vec<u8>, AllocError> {
+    if has_objects(options) {
+        verdict_json(alloc, verdict, options.is_little_endian)
+    } else {
+        verdict_text(alloc, verdict, options.ends_in_nul)
+    }
+}
+
+// Returns the text of a name that can't be read.
+fn formed_name(alloc: Global, options: Options, name: &[u8]) -> Result<Vec<u8>, AllocError> {
+    if has_objects(options) {
+        unreadable_json(alloc, name)
+    } else {
+        unreadable_text(alloc, name, options.ends_in_nul)
+    }
+}
+
+// Returns the text with the count of each class; JSON has none.
 fn counts_line(
     alloc: Global,
     options: Options,
@@ -89,6 +117,9 @@ fn counts_line(
     unread: &[&[u8]],
 ) -> Result<Vec<u8>, AllocError> {
     let mut line = Vec::new(alloc);
+    if has_objects(options) {
+        return Ok(line);
+    }
     put_count(&mut line, Class::Same, found, b" same, ")?;
     put_count(&mut line, Class::Changed, found, b" changed, ")?;
     put_count(&mut line, Class::Moved, found, b" moved, ")?;

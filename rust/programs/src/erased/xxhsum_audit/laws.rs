@@ -15,5 +15,5 @@ pub fn laws_of_audits() {}
 
 /// Lemma (no code), the laws of an audit's text. Each result is one line, whatever names it has. Two results with one
 /// line have the same name, class and other name; so have two with one record that ends with a NUL, if no name has a
-/// NUL.
+/// NUL. A JSON object is one line, and two results with one object have the same members.
 pub fn laws_of_texts() {}

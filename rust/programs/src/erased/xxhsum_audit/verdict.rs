@@ -62,7 +62,7 @@ impl<'n> Verdict<'n> {
     }
 
     // Returns the digest of the name that it is about.
-    fn told(self) -> FileDigest<'n> {
+    pub(crate) fn told(self) -> FileDigest<'n> {
         match self {
             Verdict::Same { name, .. }
             | Verdict::Changed { name, .. }
@@ -84,6 +84,31 @@ impl<'n> Verdict<'n> {
             Verdict::New { name } => name,
         }
     }
+
+    // Returns the name that it was moved from or is a copy of.
+    pub(crate) fn other(self) -> Option<&'n [u8]> {
+        match self {
+            Verdict::Moved { line, .. } => Some(line.name),
+            Verdict::Copied { original, .. } => Some(original.name),
+            _ => None,
+        }
+    }
+
+    // Returns the listed digest: of the name, of its old name, or of the file that it is a copy of.
+    pub(crate) fn listed(self) -> Option<FileDigest<'n>> {
+        match self {
+            Verdict::New { .. } => None,
+            _ => Some(self.source()),
+        }
+    }
+
+    // Returns the digest that the file has.
+    pub(crate) fn actual(self) -> Option<FileDigest<'n>> {
+        match self {
+            Verdict::Missing { .. } => None,
+            _ => Some(self.told()),
+        }
+    }
 }
 
 impl Verdict<'_> {
@@ -96,6 +121,27 @@ impl Verdict<'_> {
             Verdict::Copied { .. } => Class::Copied,
             Verdict::New { .. } => Class::New,
             Verdict::Missing { .. } => Class::Missing,
+        }
+    }
+
+    // Returns the words for its class in a line.
+    pub(crate) fn words(self) -> &'static [u8] {
+        match self {
+            Verdict::Moved { .. } => b"moved from",
+            Verdict::Copied { .. } => b"copy of",
+            _ => self.state(),
+        }
+    }
+
+    // Returns the word for its class in JSON.
+    pub(crate) fn state(self) -> &'static [u8] {
+        match self {
+            Verdict::Same { .. } => b"same",
+            Verdict::Changed { .. } => b"changed",
+            Verdict::Moved { .. } => b"moved",
+            Verdict::Copied { .. } => b"copied",
+            Verdict::New { .. } => b"new",
+            Verdict::Missing { .. } => b"missing",
         }
     }
 }

@@ -10,7 +10,7 @@ use crate::programs::xxh_io::kind::Kind;
 
 /// Lemma (no code), the laws of lines: what is printed is accepted; a printed line is one line and no comment; a text
 /// that is reported as one line is one, whatever names it has; an escape is undone; a line has at most one choice of
-/// parts, and at most one meaning.
+/// parts, and at most one meaning; two digests have two texts.
 pub fn laws_of_lines() {}
 
 /// True if the printed line, without its newline, is parsed as the same algorithm, digest and name. It is, for each

@@ -96,8 +96,7 @@ fn put_plain(
     name: &[u8],
     is_raw: bool,
 ) -> Result<(), AllocError> {
-    line.extend_from_slice(prefix_of(kind))?;
-    put_value(line, kind, is_little, value)?;
+    put_digest(line, kind, is_little, value)?;
     line.extend_from_slice(b"  ")?;
     put_name(line, name, is_raw)
 }
@@ -117,6 +116,17 @@ fn put_tagged(
     line.extend_from_slice(b" (")?;
     put_name(line, name, is_raw)?;
     line.extend_from_slice(b") = ")?;
+    put_value(line, kind, is_little, value)
+}
+
+/// Appends the digest as in a plain line: the prefix and the digits. Returns `AllocError` if out of memory.
+pub fn put_digest(
+    line: &mut Vec<u8>,
+    kind: Kind,
+    is_little: bool,
+    value: u128,
+) -> Result<(), AllocError> {
+    line.extend_from_slice(prefix_of(kind))?;
     put_value(line, kind, is_little, value)
 }
 

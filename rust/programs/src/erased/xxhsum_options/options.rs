@@ -54,6 +54,12 @@ pub struct Options {
     pub ends_in_nul: bool,
     /// `--audit`: the first argument is a checksum list, with which the named files are compared.
     pub audits: bool,
+    /// True if `--format` was given.
+    pub has_format: bool,
+    /// True if the next argument is the value of `--format`.
+    pub awaits_format: bool,
+    /// `--format=json`: an audit prints a JSON object for each result.
+    pub is_json: bool,
     /// `-r`, `--recursive`: the name of a directory means the files below it.
     pub walks: bool,
     /// `--exclude`: names in directories that match a pattern are skipped.
@@ -81,6 +87,10 @@ pub enum ParsedArgs {
     WrongOption { at: usize },
     /// An error: `-z` was given with `-c`.
     NulsInList,
+    /// An error: `--format` was given without `--audit`.
+    FormatWithoutAudit,
+    /// An error: `-z` was given with `--format=json`.
+    NulsInJson,
     /// An error: `-r` was given with `-c` or lists of names.
     WalkBesideLists,
     /// An error: `-r` was given without a name.
@@ -124,6 +134,9 @@ pub fn parse_args(kind: Kind, words: &[Vec<u8>]) -> ParsedArgs {
         is_little_endian: false,
         ends_in_nul: false,
         audits: false,
+        has_format: false,
+        awaits_format: false,
+        is_json: false,
         walks: false,
         excludes: false,
         awaits_pattern: false,
@@ -142,16 +155,23 @@ pub fn parse_args(kind: Kind, words: &[Vec<u8>]) -> ParsedArgs {
     run_from(options, words.len(), words)
 }
 
-// Returns the run by these options, of the names from this index on. Refuses `--exclude` without a pattern or a walk, a
-// NUL ending of a check, a walk without a directory name, and standard input that would stay unread.
+// Returns the run by these options, of the names from this index on. Refuses `--exclude` without a pattern or a walk,
+// `--format` without a value or an audit, a NUL ending of a check or of JSON, a walk without a directory name, and
+// standard input that would stay unread.
 fn run_from(options: Options, names_from: usize, words: &[Vec<u8>]) -> ParsedArgs {
-    if options.awaits_pattern {
+    if options.awaits_pattern || options.awaits_format {
         return ParsedArgs::WrongOption {
             at: names_from.saturating_sub(1),
         };
     }
     if options.ends_in_nul && options.checks {
         return ParsedArgs::NulsInList;
+    }
+    if options.has_format && !options.audits {
+        return ParsedArgs::FormatWithoutAudit;
+    }
+    if options.is_json && options.ends_in_nul {
+        return ParsedArgs::NulsInJson;
     }
     if options.excludes && !options.walks {
         return ParsedArgs::ExcludeWithoutWalk;
@@ -222,6 +242,17 @@ fn word_step(word: &[u8], options: Options) -> Step {
     if let Some(pattern) = word.strip_prefix(b"--exclude=") {
         return pattern_step(pattern, options);
     }
+    if options.awaits_format {
+        return format_step(word, options);
+    }
+    if let Some(value) = word.strip_prefix(b"--format=") {
+        return format_step(value, options);
+    }
+    dash_step(word, options)
+}
+
+// Applies an argument that is no value to these options.
+fn dash_step(word: &[u8], options: Options) -> Step {
     if let Some(name) = word.strip_prefix(b"--") {
         return name_step(name, options);
     }
@@ -245,6 +276,20 @@ fn pattern_step(pattern: &[u8], options: Options) -> Step {
     Step::Takes(Options {
         excludes: true,
         awaits_pattern: false,
+        ..options
+    })
+}
+
+// Applies a value of `--format` to these options.
+fn format_step(value: &[u8], options: Options) -> Step {
+    let is_json = value == b"json".as_slice();
+    if !is_json && value != b"text".as_slice() {
+        return Step::IsWrong;
+    }
+    Step::Takes(Options {
+        has_format: true,
+        awaits_format: false,
+        is_json,
         ..options
     })
 }

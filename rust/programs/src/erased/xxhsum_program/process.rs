@@ -136,6 +136,20 @@ pub fn eprint_answer<E: Sink>(program: &[u8], words: &[Vec<u8>], parsed: ParsedA
         ParsedArgs::NulsInList => {
             eprint_wrong(&[b"Wrong parameters: '-z' with '-c'"], program, err);
         }
+        ParsedArgs::FormatWithoutAudit => {
+            eprint_wrong(
+                &[b"Wrong parameters: '--format' without '--audit'"],
+                program,
+                err,
+            );
+        }
+        ParsedArgs::NulsInJson => {
+            eprint_wrong(
+                &[b"Wrong parameters: '-z' with '--format=json'"],
+                program,
+                err,
+            );
+        }
         ParsedArgs::WalkBesideLists => {
             eprint_wrong(
                 &[b"Wrong parameters: '-r' with '-c' or lists of names"],
