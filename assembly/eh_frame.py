@@ -16,13 +16,13 @@ def number(data, at, is_signed=False):
             return (value - (1 << shift) if is_signed and byte & 64 else value), at
 
 
-# By the processor's number in ELF: the relocation of a distance, the stack pointer, and the register of the return address.
+# By ELF's number of the processor: the relocation of a distance, the stack pointer, the return address's register.
 PROCESSORS = {62: (2, 7, 16), 183: (261, 31, 30)}
 
 
 class Table:
-    """`functions` has the frames of each function, which is a whole section: pairs of a place and the frame from there on.
-    A frame is the distance from the stack pointer to the CFA, and pairs of a register's number and its place below it."""
+    """`functions` has the frames of each function, a whole section: pairs of a place and the frame from there on. A
+    frame is the distance from the stack pointer to the CFA, and pairs of a register's number and its place below it."""
 
     def __init__(self, object_):
         self.heads, self.functions = {}, {}
@@ -45,7 +45,8 @@ class Table:
                 relocation, name, offset, add = leads.pop(at + 8)
                 section, offset = places.get(name, (name, offset))
                 length, = struct.unpack_from('<I', self.data, at + 12)
-                if (relocation, offset, add, length) != (self.distance, 0, 0, sizes[section]) or section in self.functions:
+                if (relocation, offset, add, length) != (self.distance, 0, 0, sizes[section]) \
+                        or section in self.functions:
                     raise ValueError(f'.eh_frame has at {at:#x} another place than a whole section')
                 self.functions[section] = self.function(at, at + 4 - pointer, at + 4 + size)
             else:
@@ -80,9 +81,10 @@ class Table:
             opcode, low, at = self.data[at] & 0xc0, self.data[at] & 0x3f, at + 1
             if opcode == ADVANCE:
                 place += low * code
-            elif opcode == OFFSET:
+            elif opcode == OFFSET or (opcode, low) == (0, 0x05):
+                name, at = (low, at) if opcode else number(self.data, at)
                 value, at = number(self.data, at)
-                saved[low] = value * units
+                saved[name] = value * units
             elif opcode == RESTORE:
                 saved.pop(low, None)
                 saved.update({low: entry[low]} if low in entry else {})
@@ -94,10 +96,6 @@ class Table:
                 if base != self.stack:
                     raise ValueError(f'.eh_frame has a frame that register {base} leads to')
                 depth, at = number(self.data, at)
-            elif low == 0x05:
-                name, at = number(self.data, at)
-                value, at = number(self.data, at)
-                saved[name] = value * units
             elif low in (0x06, 0x08):
                 name, at = number(self.data, at)
                 saved.pop(name, None)

@@ -73,7 +73,8 @@ class Object:
 
     def loaded(self):
         """The headers of the loaded sections, without notes and without the frames for unwinders."""
-        return [head for head in self.heads if head.flags & LOADED and head.size and head.kind != NOTE and head.name != FRAMES]
+        return [head for head in self.heads
+                if head.flags & LOADED and head.size and head.kind != NOTE and head.name != FRAMES]
 
     def place(self, symbol):
         """A section, and an offset in it."""
@@ -113,8 +114,7 @@ class Object:
 
     def added(self):
         """The parts that the source adds to the proved object."""
-        return {'notes': Part((), b'', sorted(self.notes())),
-                'frames': Part((), b'', Table(self).sorted_frames())}
+        return {'notes': Part((), b'', sorted(self.notes())), 'frames': Part((), b'', Table(self).sorted_frames())}
 
     def notes(self):
         """The notes that are loaded: the section's name and flags, the note's kind and name, and its content."""

@@ -1,10 +1,12 @@
 """Reads the definitions of the hashes in the crates' specs/ and evaluates them. Supports only the part of the language
 that they use. A definition is found by its name and the imports of its file. It becomes a Python function with the same
 operations."""
+import functools
 import glob
 import os
 import re
 import sys
+from typing import Any
 
 # Names that the definitions import from the library, with the library's semantics.
 
@@ -179,7 +181,8 @@ class Definition:
 
     def patterns(self, number):
         """Returns the patterns of a clause: ("name", n), ("zero",), ("suc", n) or ("constructor", n)."""
-        token_list, out, at = [word for word, _ in self.clauses[number][0]], [], 0
+        token_list, at = [word for word, _ in self.clauses[number][0]], 0
+        out: list[tuple[str, ...]] = []
         while at < len(token_list):
             if token_list[at] == "(":
                 if token_list[at + 1] != "suc" or token_list[at + 3] != ")":
@@ -251,7 +254,8 @@ class Definitions:
 
     def entry(self, name):
         """Returns the only definition with that name."""
-        found = [m.definitions[name] for m in self.modules.values() if name in m.definitions and m.definitions[name].clauses]
+        found = [m.definitions[name] for m in self.modules.values()
+                 if name in m.definitions and m.definitions[name].clauses]
         if len(found) != 1:
             raise Unreadable(f"{len(found)} definitions of {name}")
         return found[0]
@@ -302,7 +306,7 @@ class Program:
     definition's clauses."""
 
     def __init__(self, definitions, entries):
-        self.definitions, self.ids, self.order, self.code = definitions, {}, [], {}
+        self.definitions, self.ids, self.order, self.code, self.cached = definitions, {}, [], {}, {}
         self.entries = {name: definitions.entry(name) for name in entries}
         for definition in self.entries.values():
             self.reach(definition)
@@ -381,7 +385,8 @@ class Program:
             return "0"
         meaning = self.definitions.resolve(module, name)
         if isinstance(meaning, Definition):
-            return f"{self.reach(meaning)}()" if meaning.arity() == 0 else f"Function({meaning.arity()}, {self.reach(meaning)})"
+            return f"{self.reach(meaning)}()" if meaning.arity() == 0 else \
+                f"Function({meaning.arity()}, {self.reach(meaning)})"
         if meaning[0] == "constructor":
             return repr(meaning[2])
         known = LIBRARY[meaning[1]]
@@ -390,13 +395,13 @@ class Program:
     def run(self, changed=None, traced=None):
         """Returns the entries as functions. `changed` maps definitions to other right-hand sides; `traced` collects the
         definitions that calls reach."""
-        space = {"OPERATORS": OPERATORS, "LIBRARY": LIBRARY, "Function": Function, "call": call}
+        space: dict[str, Any] = {"OPERATORS": OPERATORS, "LIBRARY": LIBRARY, "Function": Function, "call": call}
         for definition in self.order:
             exec(self.compiled(definition, changed or {}), space)
         for definition in self.order:
             name = self.ids[definition]
             if definition.arity() == 0:
-                space[name] = remembered(space[name])
+                space[name] = functools.cache(space[name])      # a constant
             if traced is not None:
                 space[name] = noted(space[name], definition, traced)
         return {name: space[self.ids[definition]] for name, definition in self.entries.items()}
@@ -404,21 +409,9 @@ class Program:
     def compiled(self, definition, changed):
         if definition in changed:
             return compile(self.python(definition, changed[definition]), str(definition), "exec")
-        cached = self.__dict__.setdefault("cached", {})
-        if definition not in cached:
-            cached[definition] = compile(self.code[definition], str(definition), "exec")
-        return cached[definition]
-
-
-def remembered(function):
-    """Returns a function that computes a constant only once."""
-    values = []
-
-    def value():
-        if not values:
-            values.append(function())
-        return values[0]
-    return value
+        if definition not in self.cached:
+            self.cached[definition] = compile(self.code[definition], str(definition), "exec")
+        return self.cached[definition]
 
 
 def noted(function, definition, traced):

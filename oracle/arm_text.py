@@ -18,9 +18,16 @@ from oracle.symbolic_terms import processes
 
 def main():
     given = processes.options(__doc__).parse_args()
-    tools.install_packages({"aarch64-linux-gnu-as": "binutils-aarch64-linux-gnu", "clang": "clang",
-                            "rustc": "rustc-web", "qemu-aarch64": "qemu-user", "make": "make",
-                            "aarch64-linux-gnu-gcc": "gcc-aarch64-linux-gnu",
-                            "/usr/aarch64-linux-gnu/include/stdio.h": "libc6-dev-arm64-cross",
-                            "/usr/include/xxhash.h": "libxxhash-dev"})
+    tools.install_packages(
+        {
+            "aarch64-linux-gnu-as": "binutils-aarch64-linux-gnu",
+            "clang": "clang",
+            "rustc": "rustc-web",
+            "qemu-aarch64": "qemu-user",
+            "make": "make",
+            "aarch64-linux-gnu-gcc": "gcc-aarch64-linux-gnu",
+            "/usr/aarch64-linux-gnu/include/stdio.h": "libc6-dev-arm64-cross",
+            "/usr/include/xxhash.h": "libxxhash-dev",
+        }
+    )
     return processes.run(tasks.choose(given, tasks.program()), given.jobs)

@@ -21,7 +21,7 @@ from oracle.symbolic_terms import processes
 
 def main():
     options = processes.options(__doc__)
-    options.add_argument("--compiler", default="")
+    options.add_argument("--compiler", default="", help="only this compiler")
     given = options.parse_args()
     tools.install_packages(compilers.PACKAGES)
     found = [compiler for compiler in compilers.compilers() if given.compiler in compiler.name]

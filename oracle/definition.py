@@ -1,9 +1,10 @@
 """Evaluates the definitions of the hashes in specs/ on the test vectors:
 
-    oracle/definition            on every test case; prints how many agree with the reference library, status 1 if not all
+    oracle/definition            on every test case; prints how many agree with the reference library, status 1 if not
+                                 all
     oracle/definition --mutants  with one token changed at a time, on the test cases that the proofs compute; prints the
-                                 changes that no test case detects, except those of equivalent_mutants.txt. These change no
-                                 value, and no test case of up to 300 bytes may detect them
+                                 changes that no test case detects, except those of equivalent_mutants.txt. These change
+                                 no value, and no test case of up to 300 bytes may detect them
 """
 import multiprocessing
 import os
@@ -75,8 +76,10 @@ def every_mutant():
     for pattern in reasons.unused([change.text for change in equal]):
         print(f"no such change: {pattern}")
     read = sum(what != "unreadable" for _, what in found)
-    print(f"of {read} changes of one token {len(equal)} change no value, and of the others no proved case notices "
-          f"{len(unnoticed) - len(equal)}")
+    print(
+        f"of {read} changes of one token {len(equal)} change no value, and of the others no proved case notices "
+        f"{len(unnoticed) - len(equal)}"
+    )
     return 0
 
 

@@ -11,9 +11,15 @@ import sys
 
 TOP = os.path.dirname(os.path.dirname(os.path.abspath(__file__)))
 # The verifier's own tests, and the module that installs packages.
-LEFT_OUT = {"oracle.machine_code.c_source.beside_processor", "oracle.machine_code.c_source.planted",
-            "oracle.machine_code.self_tests", "oracle.symbolic_terms.header_faults", "oracle.symbolic_terms.mutation",
-            "oracle.symbolic_terms.self_tests", "checks.lib.tools"}
+LEFT_OUT = {
+    "oracle.machine_code.c_source.beside_processor",
+    "oracle.machine_code.c_source.planted",
+    "oracle.machine_code.self_tests",
+    "oracle.symbolic_terms.header_faults",
+    "oracle.symbolic_terms.mutation",
+    "oracle.symbolic_terms.self_tests",
+    "checks.lib.tools",
+}
 OF_HEADER = {"--c-header": "symbolic", "--c-object": "c_object"}
 HEADER = os.path.join(TOP, "c", "include", "xxhash.h")
 
@@ -33,7 +39,7 @@ def imported(path):
         if isinstance(node, ast.Import):
             yield from (name.name for name in node.names)
         elif isinstance(node, ast.ImportFrom):
-            above = package[:len(package) - node.level + 1] if node.level else []
+            above = package[: len(package) - node.level + 1] if node.level else []
             module = ".".join([*above, *([node.module] if node.module else [])])
             yield module
             yield from (f"{module}.{name.name}" for name in node.names)
@@ -56,8 +62,10 @@ def of_header(program):
     found = trusted(os.path.join(TOP, "oracle", f"{program}.py"))
     with open(HEADER, encoding="utf-8") as file:
         _, _, code = file.read().partition("/* ==== Code ====")
-    print(f"{sum(found.values()):,} lines of Python in {sum(map(bool, found.values()))} files, for "
-          f"{len(code.splitlines()):,} lines of C")
+    print(
+        f"{sum(found.values()):,} lines of Python in {sum(map(bool, found.values()))} files, for "
+        f"{len(code.splitlines()):,} lines of C"
+    )
 
 
 def main():

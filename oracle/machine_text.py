@@ -25,6 +25,6 @@ def main():
                             "aarch64-linux-gnu-as": "binutils-aarch64-linux-gnu",
                             "/usr/lib/x86_64-linux-gnu/libxxhash.so.0": "libxxhash0"})
     texts, others = tasks.programs(), cargo_tasks.programs()
-    asked = [*tasks.choose(given, texts), *cargo_tasks.choose(others, texts, given.all),
+    found = [*tasks.choose(given, texts), *cargo_tasks.choose(others, texts, given.all),
              *self_tests.choose(texts, others, given.all)]
-    return processes.run([task for task in asked if given.only in task.title], given.jobs)
+    return processes.run(processes.chosen(found, given), given.jobs)

@@ -2,8 +2,8 @@
 hashes in specs/, for all bytes, all seeds and all bytes of a secret: the modules' instructions run on symbols instead
 of numbers, and must produce the definition's term.
 
-  oracle/modules                  every length of XXH32 and XXH64, by induction; one-shots of XXH3 and streams in samples;
-                                  refusals; the table of instructions compared with Node; 60 changes
+  oracle/modules                  every length of XXH32 and XXH64, by induction; one-shots of XXH3 and streams in
+                                  samples; refusals; the table of instructions compared with Node; 60 changes
   oracle/modules --all            every length of XXH3 too, each stream, 2,000 changes
   oracle/modules --only WORD      only the tasks with that word
   oracle/modules --jobs NUMBER    number of processes (default: 1)
@@ -20,7 +20,7 @@ from oracle.symbolic_terms import processes
 
 def main():
     given = processes.options(__doc__, jobs=1).parse_args()
-    tools.install([] if shutil.which("node") else ["nodejs"])
+    tools.install(set() if shutil.which("node") else {"nodejs"})
     print(*tasks.checksums(), sep="\n", flush=True)
     try:
         chosen = tasks.choose(given, tasks.machines())

@@ -8,7 +8,13 @@ from oracle.reasons import Reasons
 
 OTHERS = {word: [other for other in "+ - * / %".split() if other != word] for word in "+ - * / %".split()}
 OTHERS["^"] = ["*"]
-LIBRARY_PAIRS = {"w32": "w64", "take": "drop", "from_le_bytes": "to_le_bytes", "rotate_left": "swap_bytes", "min": "max"}
+LIBRARY_PAIRS = {
+    "w32": "w64",
+    "take": "drop",
+    "from_le_bytes": "to_le_bytes",
+    "rotate_left": "swap_bytes",
+    "min": "max",
+}
 LIBRARY_PAIRS.update({other: word for word, other in list(LIBRARY_PAIRS.items())})
 
 
@@ -18,11 +24,17 @@ class Change:
 
     def __init__(self, definition, clause, place, word):
         names = [w for w, _ in definition.clauses[clause][1]]
-        self.path, self.name, self.clause, self.place, self.word = definition.module.path, definition.name, clause, place, word
-        marked = names[:place] + [f"[{names[place]} -> {word}]"] + names[place + 1:]
+        self.path, self.name, self.clause, self.place, self.word = (
+            definition.module.path,
+            definition.name,
+            clause,
+            place,
+            word,
+        )
+        marked = names[:place] + [f"[{names[place]} -> {word}]"] + names[place + 1 :]
         line = definition.module.text.count("\n", 0, definition.clauses[clause][1][place][1]) + 1
         file = definition.module.path.replace("Rattle.", "").replace(".", "/") + ".antt"
-        near = " ".join(marked[max(0, place - 8):place + 9])
+        near = " ".join(marked[max(0, place - 8) : place + 9])
         self.text = f"{file}:{line} {definition.name}: {near}"
 
 
@@ -109,8 +121,14 @@ def others(program, reached, definition, scope, local, word):
     if meaning is None:
         return []
     if isinstance(meaning, antt.Definition):
-        return [name for name, d in scope.items() if d is not meaning and d.type_tokens == meaning.type_tokens
-                and d is not definition and definition not in reached.get(d, ())]
+        return [
+            name
+            for name, d in scope.items()
+            if d is not meaning
+            and d.type_tokens == meaning.type_tokens
+            and d is not definition
+            and definition not in reached.get(d, ())
+        ]
     if meaning[0] == "constructor":
         return [name for name, data in definition.module.constructors.items() if data == meaning[1] and name != word]
     other = LIBRARY_PAIRS.get(meaning[1])
@@ -155,6 +173,16 @@ def outcome(program, cases, change):
         try:
             if not case.agrees(entries):
                 return "noticed"
-        except (antt.Unreadable, TypeError, AttributeError, IndexError, OverflowError, ValueError, RecursionError, NameError, MemoryError):
+        except (
+            antt.Unreadable,
+            TypeError,
+            AttributeError,
+            IndexError,
+            OverflowError,
+            ValueError,
+            RecursionError,
+            NameError,
+            MemoryError,
+        ):
             return "noticed"
     return "unnoticed"

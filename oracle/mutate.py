@@ -1,7 +1,7 @@
-"""Changes the verifier itself, the files that oracle/lines-to-trust counts, and requires that a check detects each change:
-a test of values, an instruction beside the processor, a committed source that must pass, or a planted file that must be
-refused. Each comparison and condition is decided either way, moved by one or loses a part; each other line has one change
-of an operand, a number, an argument or a statement.
+"""Changes the verifier itself, the files that oracle/lines-to-trust counts, and requires that a check detects each
+change: a test of values, an instruction beside the processor, a committed source that must pass, or a planted file that
+must be refused. Each comparison and condition is decided either way, moved by one or loses a part; each other line has
+one change of an operand, a number, an argument or a statement.
 
   oracle/mutate                  random mutants, for 180 s of processor time; prints the seed
   oracle/mutate --seconds NUMBER   another time
@@ -11,9 +11,9 @@ of an operand, a number, an argument or a statement.
   oracle/mutate --record         writes the counts and the unexplained mutants into oracle/verifier_mutants
   oracle/mutate --jobs NUMBER    number of processes (default: 2)
 
-First it runs all checks once, in 4 minutes of processor time, and notes which functions each calls. An undetected mutant
-needs a reason in oracle/verifier_mutants/reasons.txt. It needs gcc, binutils and an x86-64-v3 processor. The last line is
-"N passed, M failed"; the exit status is 1 if one failed."""
+First it runs all checks once, in 4 minutes of processor time, and notes which functions each calls. An undetected
+mutant needs a reason in oracle/verifier_mutants/reasons.txt. It needs gcc, binutils and an x86-64-v3 processor. The
+last line is "N passed, M failed"; the exit status is 1 if one failed."""
 import argparse
 import collections
 import datetime
@@ -26,7 +26,7 @@ import tempfile
 from oracle.verifier_mutants import patches
 
 LOADER = patches.Loader()
-sys.meta_path.insert(0, LOADER)      # before other modules, whose functions it must know
+sys.meta_path.insert(0, LOADER)  # before other modules, whose functions it must know
 from oracle import antt
 from oracle.reasons import Reasons
 from oracle.verifier_mutants import edits, runs
@@ -36,14 +36,15 @@ TOP = os.path.dirname(HERE)
 RECORDS = os.path.join(HERE, "verifier_mutants")
 REASONS, COUNTS, UNEXPLAINED = (os.path.join(RECORDS, name) for name in ("reasons.txt", "counts.tsv", "undetected.txt"))
 UNPLANTED = os.path.join(HERE, "machine_code", "unplanted.txt")
-STARTS = "__main__.py", "oracle/machine_text.py"      # which only start the tasks
-SECONDS = 180                     # of processor time without --all
+STARTS = "__main__.py", "oracle/machine_text.py"  # which only start the tasks
+SECONDS = 180  # of processor time without --all
 CHECK_TYPES = "value", "processor", "right", "planted"
 
 
 def trusted_files():
-    printed = subprocess.run([os.path.join(HERE, "lines-to-trust"), "--files"], check=True, capture_output=True,
-                             text=True).stdout
+    printed = subprocess.run(
+        [os.path.join(HERE, "lines-to-trust"), "--files"], check=True, capture_output=True, text=True
+    ).stdout
     return [line.split()[1] for line in printed.splitlines()[:-1] if line.endswith(".py") and not line.endswith(STARTS)]
 
 
@@ -70,10 +71,30 @@ def record(outcomes, counts, unexplained, seed, total):
         print("# Mutants of the verifier that no check detects, without a reason.", file=file)
         print(*sorted(one.title for one in unexplained), sep="\n", file=file)
     with open(COUNTS, "w", encoding="utf-8") as file:
-        print("date", "seed", "mutants", "tested", *CHECK_TYPES, "reason", "unexplained", "of decisions", sep="\t", file=file)
-        print(datetime.date.today().isoformat(), seed, total, len(outcomes), *(counts[check_type] for check_type in CHECK_TYPES),
-              counts["reason"],
-              len(unexplained), sum(one.decides for one in unexplained), sep="\t", file=file)
+        print(
+            "date",
+            "seed",
+            "mutants",
+            "tested",
+            *CHECK_TYPES,
+            "reason",
+            "unexplained",
+            "of decisions",
+            sep="\t",
+            file=file,
+        )
+        print(
+            datetime.date.today().isoformat(),
+            seed,
+            total,
+            len(outcomes),
+            *(counts[check_type] for check_type in CHECK_TYPES),
+            counts["reason"],
+            len(unexplained),
+            sum(one.decides for one in unexplained),
+            sep="\t",
+            file=file,
+        )
 
 
 def report(outcomes, seed, total, is_recorded):
@@ -86,10 +107,12 @@ def report(outcomes, seed, total, is_recorded):
     if is_recorded:
         record(outcomes, counts, unexplained, seed, total)
     print(*(f"    undetected: {one.title}" for one in unexplained), sep="\n")
-    print(f"seed {seed}: {len(outcomes)} of {total} mutants: " + ", ".join(f"{counts[check_type]} {check_type}" for check_type in (*CHECK_TYPES,
-                                                                "reason")) +
-          f", {len(unexplained)} unexplained, of these {sum(one.decides for one in unexplained)} of decisions; "
-          f"{sum(one.seconds for one in outcomes):.0f} s of processor time")
+    print(
+        f"seed {seed}: {len(outcomes)} of {total} mutants: "
+        + ", ".join(f"{counts[check_type]} {check_type}" for check_type in (*CHECK_TYPES, "reason"))
+        + f", {len(unexplained)} unexplained, of these {sum(one.decides for one in unexplained)} of decisions; "
+        f"{sum(one.seconds for one in outcomes):.0f} s of processor time"
+    )
     print(f"{len(outcomes) - len(unexplained)} passed, {len(unexplained)} failed")
     return 1 if unexplained or not outcomes else 0
 
@@ -104,10 +127,10 @@ def ask(given):
 
 def main():
     options = argparse.ArgumentParser(description=__doc__, formatter_class=argparse.RawDescriptionHelpFormatter)
-    options.add_argument("--all", action="store_true")
-    options.add_argument("--seconds", type=int, default=SECONDS)
-    options.add_argument("--seed", type=int, default=random.SystemRandom().randrange(10 ** 6))
-    options.add_argument("--only", default="")
-    options.add_argument("--record", action="store_true")
-    options.add_argument("--jobs", type=int, default=2)
+    options.add_argument("--all", action="store_true", help="try each mutant")
+    options.add_argument("--seconds", type=int, default=SECONDS, help="processor time")
+    options.add_argument("--seed", type=int, default=random.SystemRandom().randrange(10**6), help="seed of the order")
+    options.add_argument("--only", default="", help="try only the mutants with this word")
+    options.add_argument("--record", action="store_true", help="write the counts and the unexplained mutants")
+    options.add_argument("--jobs", type=int, default=2, help="number of processes")
     return antt.with_deep_recursion(ask, options.parse_args())

@@ -28,8 +28,13 @@ class Reasons(dict):
 def is_fault(what, has_reason, must_fit=True):
     """True if the outcome is a fault: an undetected change without a reason; a crash of the checker or a wrong rule;
     or, with `must_fit`, a detected change with a reason."""
-    return what.startswith((CRASH, WRONG_RULE, "WrongRule", f"{UNNOTICED}, but")) or (
-        what == UNNOTICED and not has_reason) or must_fit and has_reason and what != UNNOTICED
+    return (
+        what.startswith((CRASH, WRONG_RULE, "WrongRule", f"{UNNOTICED}, but"))
+        or (what == UNNOTICED and not has_reason)
+        or must_fit
+        and has_reason
+        and what != UNNOTICED
+    )
 
 
 class Called:

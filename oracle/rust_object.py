@@ -4,7 +4,8 @@ numbers, like the assembly source's in oracle/machine-text. The object has the c
 and a program that uses each public type and function. Other builds have no assembly source, with and without vectors.
 
   oracle/rust-object                 one-shots and streams of every length, by induction: a sample of the cases
-  oracle/rust-object --all           all cases, the build for x86-64-v3, and XXH32 and XXH64 of 0 to 2,000 bytes, XXH3 of 0 to 1,100, one by one
+  oracle/rust-object --all           all cases, the build for x86-64-v3, and one by one 0 to 300 bytes, with a secret
+                                     0 to 1,100
   oracle/rust-object --target aarch64   the Rust source for 64-bit ARM, with Debian's rustc and its libraries
   oracle/rust-object --only WORD     only the tasks with that word
   oracle/rust-object --jobs NUMBER   number of processes (default: 2)
@@ -25,7 +26,7 @@ FOR_ARM = {compilers.DEBIANS_RUSTC: "rustc-web", "aarch64-linux-gnu-as": "binuti
 
 def main():
     options = processes.options(__doc__)
-    options.add_argument("--target", choices=("x86-64", "aarch64"), default="x86-64")
+    options.add_argument("--target", choices=("x86-64", "aarch64"), default="x86-64", help="processor")
     given = options.parse_args()
     if given.target == "x86-64":
         tools.install_packages({"rustc": "rustc-web", "objdump": "binutils"})

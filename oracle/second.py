@@ -1,5 +1,5 @@
-"""Compares the C library's assembly sources for x86-64 with the specification of xxHash, by an engine that shares no code
-with oracle/machine-text: another processor, other terms, the hashes written from the specification, and z3.
+"""Compares the C library's assembly sources for x86-64 with the specification of xxHash, by an engine that shares no
+code with oracle/machine-text: another processor, other terms, the hashes written from the specification, and z3.
 
   oracle/second                  every 16th length of 0 to 240 bytes, and one step of each loop
   oracle/second --all            each length
@@ -33,12 +33,21 @@ WRONG = [
     ("XXH32", ("mov 0x1(%rdi),%rax",), ("one_shot", "32", "seed", 8), "a read at"),
     ("XXH32", ("cmpq $0x0,(%rdi)", "jne 1f", "1:"), ("one_shot", "32", "seed", 40), "a place or a branch by a symbol"),
     ("XXH32", ("movl $0x0,(%rdi)",), ("one_shot", "32", "seed", 40), "a store at"),
-    ("XXH3_64bits_withSeed", ("test %rdx,%rdx", "jne 1f", "1:", "inc %rdx"), ("one_shot", "3-64", "seed", 17), "another value"),
+    (
+        "XXH3_64bits_withSeed",
+        ("test %rdx,%rdx", "jne 1f", "1:", "inc %rdx"),
+        ("one_shot", "3-64", "seed", 17),
+        "another value",
+    ),
     ("XXH3_128bits_withSecret", ("inc %rdx",), ("one_shot", "3-128", "secret", 100), "."),
     ("XXH3_64bits", ("xor %ebx,%ebx",), ("one_shot", "3-64", "default", 5), "isn't the caller's"),
     ("XXH64_update", ("xorl $0x1,(%rsi)",), ("plain_step", "64", 2), "a store at|another value"),
-    ("twox_c.xxh3_state.Xxh3State.update", ("push %rdi", "call 1f", "pop %rdi", "xorq $0x1,(%rdi)", "ret", "1:"),
-     ("xxh3_step", "3-64", 1200), "another number of stripes|another value|places"),
+    (
+        "twox_c.xxh3_state.Xxh3State.update",
+        ("push %rdi", "call 1f", "pop %rdi", "xorq $0x1,(%rdi)", "ret", "1:"),
+        ("xxh3_step", "3-64", 1200),
+        "another number of stripes|another value|places",
+    ),
 ]
 
 
@@ -51,6 +60,7 @@ def object_of(path, folder):
 def ask(path, task):
     """Runs a task in this process. Returns the refusal, or None."""
     from oracle.second_engine import machine, tasks, terms
+
     sys.setrecursionlimit(100_000)
     with tempfile.TemporaryDirectory(prefix="second-") as folder:
         calls = tasks.Calls(machine.Code(object_of(path, folder)))
@@ -58,7 +68,7 @@ def ask(path, task):
     try:
         if what == "one_shots":
             for n in arguments[2]:
-                calls.one_shot(*arguments[:2], n)
+                calls.one_shot(arguments[0], arguments[1], n)
         else:
             getattr(calls, what)(*arguments)
     except (terms.Differs, machine.Refused) as refusal:
@@ -69,11 +79,16 @@ def ask(path, task):
 def show(title, path, task):
     began = time.process_time()
     refusal = ask(path, task)
-    return f"{'FAILED' if refusal else 'ok'} {title}; {time.process_time() - began:.1f} s{refusal and '; ' + refusal or ''}", not refusal
+    return (
+        f"{'FAILED' if refusal else 'ok'} {title}; {time.process_time() - began:.1f} s"
+        f"{refusal and '; ' + refusal or ''}",
+        not refusal,
+    )
 
 
 def show_vectors(title, each):
     from oracle.second_engine import tasks, terms
+
     sys.setrecursionlimit(100_000)
     try:
         return f"ok {title}: {tasks.compare_vectors(each, 300)} results", True
@@ -84,6 +99,7 @@ def show_vectors(title, each):
 def refuse(title, path, name, lines, task, reason):
     """Plants a fault at the beginning of a function, which must be refused for the reason."""
     import re
+
     with open(path, encoding="utf-8") as file:
         text = file.read()
     head = f"\n{name}:\n\t.cfi_startproc\n"
@@ -101,17 +117,28 @@ def refuse(title, path, name, lines, task, reason):
 def choose(is_all):
     """Yields the tasks: (function, title, arguments)."""
     from oracle.second_engine.tasks import ALGORITHMS
+
     yield show_vectors, "the specification beside the reference library's results", (1 if is_all else 29,)
-    paths = [os.path.join(SOURCES, name) for name in sorted(os.listdir(SOURCES)) if name.startswith("x86-64") and name.endswith(".s")]
+    paths = [
+        os.path.join(SOURCES, name)
+        for name in sorted(os.listdir(SOURCES))
+        if name.startswith("x86-64") and name.endswith(".s")
+    ]
     for path in paths:
-        name = os.path.basename(path)[:-len(".s")]
+        name = os.path.basename(path)[: -len(".s")]
         lengths = LENGTHS if is_all else sorted({*LENGTHS[::EACH], 1, 3, 4, 8, 9, 17, 129})
         for algorithm in ALGORITHMS:
-            yield show, f"{name}: XXH{', '.join(algorithm)}: {len(lengths)} lengths to 240 bytes", (path, ("one_shots", *algorithm, lengths))
+            yield show, f"{name}: XXH{', '.join(algorithm)}: {len(lengths)} lengths to 240 bytes", (
+                path,
+                ("one_shots", *algorithm, lengths),
+            )
         for hash_name in ("32", "64"):
             yield show, f"{name}: XXH{hash_name}: stripes from any accumulators", (path, ("plain_step", hash_name, 3))
         for hash_name in ("3-64", "3-128"):
-            yield show, f"{name}: XXH{hash_name}: stripes, scramble and end from any accumulators", (path, ("xxh3_step", hash_name, 1200))
+            yield show, f"{name}: XXH{hash_name}: stripes, scramble and end from any accumulators", (
+                path,
+                ("xxh3_step", hash_name, 1200),
+            )
         yield show, f"{name}: XXH3-64, default: blocks", (path, ("one_shots", "3-64", "default", [241, 1025, 2100]))
     for name, lines, task, reason in WRONG:
         yield refuse, f"a wrong {name}: {'; '.join(lines)}", (paths[0], name, lines, task, reason)
@@ -119,12 +146,12 @@ def choose(is_all):
 
 def main():
     options = argparse.ArgumentParser(usage=__doc__)
-    options.add_argument("--all", action="store_true")
-    options.add_argument("--only", default="")
-    options.add_argument("--jobs", type=int, default=2)
+    options.add_argument("--all", action="store_true", help="run all cases")
+    options.add_argument("--only", default="", help="run only the tasks with this word")
+    options.add_argument("--jobs", type=int, default=2, help="number of processes")
     given, passed = options.parse_args(), 0
     tools.install_packages({"as": "binutils"})
-    tools.install([] if os.path.exists(DEBIAN) else ["python3-z3"])
+    tools.install(set() if os.path.exists(DEBIAN) else {"python3-z3"})
     asked = [task for task in choose(given.all) if given.only in task[1]]
     with concurrent.futures.ProcessPoolExecutor(given.jobs) as pool:
         for found in [pool.submit(function, title, *arguments) for function, title, arguments in asked]:

@@ -21,9 +21,9 @@ from oracle.symbolic_terms import processes, tasks, printer, reference
 
 def main():
     options = processes.options(__doc__)
-    options.add_argument("--headers", default=reference.HEADERS)
-    options.add_argument("--vector", choices=reference.FORMS, default="scalar")
-    options.add_argument("--show", nargs=2, metavar=("HASH", "LENGTH"))
+    options.add_argument("--headers", default=reference.HEADERS, help="folder of the header")
+    options.add_argument("--vector", choices=reference.FORMS, default="scalar", help="form of the loops")
+    options.add_argument("--show", nargs=2, metavar=("HASH", "LENGTH"), help="print the terms of a request")
     given = options.parse_args()
     reference.install(given.headers, with_solver=given.all)
     if given.show:

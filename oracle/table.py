@@ -11,7 +11,7 @@ def generated(start, length):
     """Returns the bytes of a test case, as defined in oracle/vectors.c."""
     out, x = bytearray(), start
     for _ in range(length):
-        x = (x * 6364136223846793005 + 1442695040888963407) % 2 ** 64
+        x = (x * 6364136223846793005 + 1442695040888963407) % 2**64
         out.append(x >> 56)
     return memoryview(bytes(out))
 

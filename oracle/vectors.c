@@ -78,7 +78,8 @@ static void seeded_at_random(enum hash hash, size_t length)
 }
 
 /* A request with only a secret, or with a seed too. */
-static void keyed(enum hash hash, int has_seed, uint64_t seed, size_t secret_length, uint64_t secret_start, size_t length, uint64_t start)
+static void keyed(enum hash hash, int has_seed, uint64_t seed, size_t secret_length, uint64_t secret_start,
+                  size_t length, uint64_t start)
 {
     fill(input, length, start);
     fill(secret, secret_length, secret_start);
@@ -196,8 +197,8 @@ static void long_inputs(enum hash hash)
 
 int main(void)
 {
-    printf("# Answers of xxHash %d.%d.%d, made by oracle/make-vectors\n", XXH_versionNumber() / 10000, XXH_versionNumber() / 100 % 100,
-           XXH_versionNumber() % 100);
+    printf("# Answers of xxHash %d.%d.%d, made by oracle/make-vectors\n", XXH_versionNumber() / 10000,
+           XXH_versionNumber() / 100 % 100, XXH_versionNumber() % 100);
     for (int hash = H32; hash <= H3_128; hash++) all_seeded((enum hash)hash);
     all_keyed(H3_64);
     all_keyed(H3_128);

@@ -57,9 +57,6 @@ CODE = ('.py', '.pyi', '.sh', *identifiers.LIKE_C)
 MOST_COLUMNS = 120
 # Files with longer lines, and why.
 LONG_LINES = {
-    'oracle/*': 'not formatted yet',
-    'assembly/eh_frame.py': 'the verifier tests mutants of this file',
-    'assembly/same_bytes.py': 'the verifier tests mutants of this file',
     'c/include/xxhash.h': 'the verifier has run over this file',
     'web/bench_c/large.py': 'scripts in JavaScript',
     'web/tests/*.py': 'scripts in JavaScript',
@@ -68,6 +65,7 @@ LONG_LINES = {
     'web/*.ts': 'not wrapped yet',
 }
 MOST_LINES = 40
+UNTYPED = ('oracle/*',)  # whose functions need no types: most take terms of several classes
 LONG_FUNCTIONS = ('oracle/*', 'checks/programs/cases*.py')
 FEATURES = ('random', 'xxhash32', 'xxhash64', 'xxhash3_64', 'xxhash3_128', 'std', 'alloc')
 
@@ -219,7 +217,7 @@ WRONG = {
         ('wrong.py', 'from wrong import f\n\n\ndef f(*, a: int):\n    pass\n'),
         ('wrong.py', 'from .wrong import f\n\n\ndef f(**a) -> None:\n    pass\n'),
     ],
-    long_lines: [(f'wrong{ending}', 'x' * 121) for ending in ('.py', '.sh', '.c', '.js')],
+    long_lines: [(name, 'x' * 121) for name in ('wrong.py', 'wrong.sh', 'wrong.c', 'wrong.js', 'oracle/wrong.py')],
     rustfmt: [('wrong.rs', 'fn  main(){}\n')],
     clippy: [('wrong.rs', 'pub fn one(a: bool) -> bool { a == true }\n')],
     node: [('wrong.js', 'let = ;\n')],
@@ -341,7 +339,8 @@ def check_code(report, every):
     report.attempt('black', is_clean, black, python)
     report.attempt('mypy', is_clean, mypy, typed(python))
     report.attempt('help of arguments', is_clean, arguments_without_help, typed(python))
-    report.attempt('types of shared functions', is_clean, hints.functions_without_types, typed(python))
+    shared = [path for path in typed(python) if not is_one_of(path, UNTYPED)]
+    report.attempt('types of shared functions', is_clean, hints.functions_without_types, shared)
     report.attempt('lengths of functions', is_clean, long_functions, python)
     report.attempt('rustfmt', is_clean, rustfmt, rust)
     report.attempt('clippy', is_clean, clippy, roots)

@@ -4,6 +4,7 @@ import functools
 import io
 import os
 import re
+import tempfile
 import tokenize
 from typing import Iterator
 
@@ -103,8 +104,10 @@ def is_page(name: str) -> bool:
 
 
 def name_of(path: str) -> str:
-    """The path of a file from the top, or the name of one that is elsewhere."""
-    return os.path.relpath(path, TOP) if path.startswith(TOP + os.sep) else os.path.basename(path)
+    """The path of a file from the top, or the path of a planted one from its temporary folder."""
+    if path.startswith(TOP + os.sep):
+        return os.path.relpath(path, TOP)
+    return os.path.relpath(path, tempfile.gettempdir()).partition(os.sep)[2]
 
 
 def lines_with_words(*paths: str) -> Iterator[str]:

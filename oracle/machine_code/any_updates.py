@@ -9,8 +9,9 @@ all else is symbolic. A digest returns the definition's value and leaves the sta
 import collections
 import functools
 
-from oracle.symbolic_terms import (LONGEST, Bytes, Input, NotShown, Piece, Request, at_most, given, is_same, is_same_number,
-                                   lifted, minus, plus, same, seed_symbol, suppositions, times, variable)
+from oracle.symbolic_terms import (LONGEST, Bytes, Input, NotShown, Piece, Request, at_most, given, is_same,
+                                   is_same_number, lifted, minus, plus, same, seed_symbol, suppositions, times,
+                                   variable)
 
 from . import layouts, streams
 from .every_length import UNROLLED, Cases
@@ -71,7 +72,8 @@ class AnyUpdates(Cases):
         """Yields the content of a state that represents stripe * a + r bytes: (offset, size, value)."""
         word, n = self.width // 8, plus(times(self.stripe, a), r)
         yield from ((at, word, x) for at, x in zip(self.at.accumulators, accumulators, strict=True))
-        yield from ((self.at.seed, word, self.seed), (self.at.marked, self.MARKED, self.at.first_mark + r), (self.at.total, 8, n))
+        yield from ((self.at.seed, word, self.seed), (self.at.marked, self.MARKED, self.at.first_mark + r),
+                    (self.at.total, 8, n))
         for k in range(r):
             yield self.at.buffer + k, 1, self.source.load(plus(times(self.stripe, a), k), 1)
 
@@ -124,8 +126,8 @@ class AnyUpdates(Cases):
             self.update(one, minus(LONGEST, variable("lost")))
 
     def update_between(self, a, r, b, s, facts, family, total=None):
-        """Proves an update from stripe * a + r bytes to stripe * b + s. If the state has another total, the sum with the
-        chunk's length is 2 ^ 64 or more, and the total must become 2 ^ 64 - 1."""
+        """Proves an update from stripe * a + r bytes to stripe * b + s. If the state has another total, the sum with
+        the chunk's length is 2 ^ 64 or more, and the total must become 2 ^ 64 - 1."""
         begun, ended = plus(times(self.stripe, a), r), plus(times(self.stripe, b), s)
         self.begin(ended)
         length = minus(ended, begun)
@@ -134,7 +136,8 @@ class AnyUpdates(Cases):
             state = self.state(a, r)
             if lost:
                 state.store(self.at.total, 8, total)
-            self.call(self.library.update, state, self.hash_name, state, Piece(self.source, begun, length), family=family)
+            self.call(self.library.update, state, self.hash_name, state, Piece(self.source, begun, length),
+                      family=family)
             if lost and not is_same_number(state.load(self.at.total, 8), LONGEST):
                 raise NotShown(f"an update: the total is {state.load(self.at.total, 8)} and not 2^64 - 1")
             if lost:

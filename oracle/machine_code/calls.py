@@ -4,8 +4,8 @@ import functools
 import itertools
 import random
 
-from oracle.symbolic_terms import (LONGEST_SECRET, Bytes, Input, NotShown, Request, at_most, definition, given, is_same, minus, nodes,
-                                   plus, symbol, times, variable)
+from oracle.symbolic_terms import (LONGEST_SECRET, Bytes, Input, NotShown, Request, at_most, definition, given, is_same,
+                                   minus, nodes, plus, symbol, times, variable)
 
 from . import layouts, one_shots, streams
 from .memory import Numbers, OnlyRead, WordMemory
@@ -15,8 +15,8 @@ from .values import address, arithmetic, bits, low
 WIDTHS = {"XXH32": 32, "XXH64": 64, "XXH128": 128}
 AT, SHORTEST = layouts.STATE, 136       # the layout of XXH3's states; bytes of a secret
 # A message and a secret in one memory object: the offset and length of each.
-ONE_PLACE = [(0, 136, 0, 136), (0, 300, 0, 192), (64, 240, 0, 136), (0, 1100, 8, 200), (1, 17, 0, 136), (130, 16, 0, 136),
-             (100, 700, 36, 143), (0, 129, 128, 136)]
+ONE_PLACE = [(0, 136, 0, 136), (0, 300, 0, 192), (64, 240, 0, 136), (0, 1100, 8, 200), (1, 17, 0, 136),
+             (130, 16, 0, 136), (100, 700, 36, 143), (0, 129, 128, 136)]
 MOST_NODES = 500_000                    # between two cases
 LIMITS = {32: (1 << 32) - 1, 64: (1 << 64) - 1}
 
@@ -37,16 +37,13 @@ def canonical_forms(cpu):
     """Tests the conversion of a hash to big-endian bytes and back. The bytes are unaligned."""
     for name, width in WIDTHS.items():
         parts, size = parts_of(width, "hash"), width // 8
-        of_hash = WordMemory("canonical", size, alignment=1)
+        of_hash, source = WordMemory("canonical", size, alignment=1), Input("canonical", size)
         cpu.call(f"{name}_canonicalFromHash", address(of_hash), *parts)
+        registers = cpu.call(f"{name}_hashFromCanonical", address(source))
         for k in range(size):
             at = 8 * (size - 1 - k)
             expect(f"{name}_canonicalFromHash", of_hash.load(k, 1), bits(parts[at // 64][0], at % 64, 8))
-        source = Input("canonical", size)
-        rax, rdx = cpu.call(f"{name}_hashFromCanonical", address(source))
-        for k in range(size):
-            at = 8 * (size - 1 - k)
-            expect(f"{name}_hashFromCanonical", bits((rax, rdx)[at // 64], at % 64, 8), source.load(k, 1))
+            expect(f"{name}_hashFromCanonical", bits(registers[at // 64], at % 64, 8), source.load(k, 1))
     return 2 * len(WIDTHS)
 
 
@@ -65,33 +62,30 @@ def is_equal(cpu):
 def compare(cpu):
     """Tests each word of the first hash above, equal to, and below the second hash's word."""
     order = {1: 1, 0: 0, -1: LIMITS[32]}
-    for high in order:
-        for under in order:
-            a, b, more = (variable(name) for name in ("a", "b", "more"))
-            rest = variable("less")
-            with given(at_most(plus(a, more, 1), LIMITS[64]), at_most(plus(b, rest, 1), LIMITS[64])):
-                pairs = [(plus(x, d, 1) if side > 0 else x, plus(x, d, 1) if side < 0 else x)
-                         for x, d, side in ((b, rest, under), (a, more, high))]
-                first, second = (OnlyRead(name, 16, [(8 * k, 8, pairs[k][j]) for k in (0, 1)], alignment=8)
-                                 for j, name in enumerate(("first", "second")))
-                rax, _ = cpu.call("XXH128_cmp", address(first), address(second))
-            expect("XXH128_cmp", low(rax, 32), order[high or under])
+    for high, under in itertools.product(order, order):
+        a, b, more, rest = (variable(name) for name in ("a", "b", "more", "less"))
+        with given(at_most(plus(a, more, 1), LIMITS[64]), at_most(plus(b, rest, 1), LIMITS[64])):
+            pairs = [(plus(x, d, 1) if side > 0 else x, plus(x, d, 1) if side < 0 else x)
+                     for x, d, side in ((b, rest, under), (a, more, high))]
+            first, second = (OnlyRead(name, 16, [(8 * k, 8, pairs[k][j]) for k in (0, 1)], alignment=8)
+                             for j, name in enumerate(("first", "second")))
+            rax, _ = cpu.call("XXH128_cmp", address(first), address(second))
+        expect("XXH128_cmp", low(rax, 32), order[high or under])
     return len(order) ** 2
 
 
 def compare_in_one_place(cpu):
-    """Tests a hash against itself, and two hashes that overlap in one word: the order of three words, in two steps."""
+    """Tests a hash against itself, and two hashes that overlap in one word, for each order of the three values."""
     order, count = {1: 1, 0: 0, -1: LIMITS[32]}, 0
-    for above, below in itertools.product(order, order):
-        a, d, e = (variable(name) for name in ("a", "d", "e"))
-        first = plus(a, plus(e, 1) if below < 0 else 0, plus(d, 1) if above < 0 else 0)
-        second = plus(first, times(plus(e, 1), below))
-        third = plus(second, times(plus(d, 1), above))
-        with given(at_most(plus(a, d, e, 2), LIMITS[64])):
-            hashes = OnlyRead("hashes", 24, [(0, 8, first), (8, 8, second), (16, 8, third)], alignment=8)
-            for at, other, sign in ((8, 0, 1), (0, 8, -1), (0, 0, 0), (8, 8, 0)):
-                rax, _ = cpu.call("XXH128_cmp", address(hashes, at), address(hashes, other))
-                expect("XXH128_cmp of hashes in one place", low(rax, 32), order[sign * (above or below)])
+    a, d, e = (variable(name) for name in ("a", "d", "e"))
+    values = a, plus(a, d, 1), plus(a, d, e, 2)
+    for ranks in itertools.product(range(3), repeat=3):
+        with given(at_most(values[2], LIMITS[64])):
+            hashes = OnlyRead("hashes", 24, [(8 * k, 8, values[rank]) for k, rank in enumerate(ranks)], alignment=8)
+            for i, j in itertools.product((0, 1), repeat=2):
+                rax, _ = cpu.call("XXH128_cmp", address(hashes, 8 * i), address(hashes, 8 * j))
+                above = ranks[i + 1] - ranks[j + 1] or ranks[i] - ranks[j]
+                expect("XXH128_cmp of hashes in one place", low(rax, 32), order[(above > 0) - (above < 0)])
                 count += 1
     return count
 
@@ -121,10 +115,11 @@ def mark_of(hash_name):
 
 
 def forgotten(cpu):
-    """Tests that a freed state is refused, also with a secret of the caller, and that `forget` changes only the mark."""
+    """Tests that a freed state is refused, also with a caller's secret, and that `forget` changes only the mark."""
     for hash_name in ("32", "64", "3-64", "3-128"):
         state, (at, n) = new_state(cpu, hash_name), mark_of(hash_name)
-        expect_answer(reset(cpu, Request(hash_name, "seed" if one_shots.is_plain(hash_name) else "default", 0), state), OK)
+        expect_answer(reset(cpu, Request(hash_name, "seed" if one_shots.is_plain(hash_name) else "default", 0), state),
+                      OK)
         before = contents(state, 4)
         cpu.call(f"twox_c_forget_xxh{streams.state_name(hash_name)}", address(state))
         before[at // 4:(at + n) // 4] = contents(state, 4)[at // 4:(at + n) // 4]
@@ -155,16 +150,15 @@ def refused(cpu, hash_name, state, secret=None):
 
 
 def forms():
-    """Yields the forms of states of XXH3: hash, marks, the caller's secret if there is one, with facts, and the stripes of a
-    block."""
+    """Yields the forms of states of XXH3: hash, marks, the caller's secret or None, facts, and a block's stripes."""
     for hash_name in ("3-64", "3-128"):
         yield hash_name, layouts.OWN_MARKS, None, [], 16
         yield hash_name, layouts.CALLERS_MARKS, *callers_secret(), variable("q")
 
 
 def without_mark(cpu):
-    """Tests memory with any content, and any word in the mark's place that isn't a mark: all below the first mark, between
-    two, and above the last."""
+    """Tests memory with any content, and any word in the mark's place that isn't a mark: all below the first mark,
+    between two, and above the last."""
     count, v = 0, variable("v")
     plain = [(name, [(at.first_mark, at.capacity)], None, []) for name, at in layouts.PLAIN.items()]
     for hash_name, marks, secret, facts in [*plain, *((name, [(mark, 1) for mark in sorted(marks)], secret, facts)
@@ -180,9 +174,9 @@ def without_mark(cpu):
 
 
 def invalid_fields(at, q):
-    """Yields the invalid fields of streams of XXH3 of a layout, with q stripes in a block: (offset, value), .., with facts: a
-    position behind the secret's end, more buffered bytes than the buffer holds, or none although the total isn't 0. All
-    other fields are any words."""
+    """Yields the invalid fields of streams of XXH3 of a layout, with q stripes in a block: (offset, value), .., with
+    facts: a position behind the secret's end, more buffered bytes than the buffer holds, or none although the total
+    isn't 0. All other fields are any words."""
     v, w, most, capacity = variable("v"), variable("w"), LIMITS[64], at.capacity
     usage, total = at.buffer_usage, at.total_bytes
     places = [(False, v, [minus(q, plus(v, 1))]), (True, plus(v, q), [at_most(plus(v, q), most)])]
@@ -242,7 +236,7 @@ def null_pointers(cpu):
     entries, count = definition.program().run(), 0
     for hash_name, variant in (("32", "seed"), ("64", "seed"), *((name, variant) for name in ("3-64", "3-128")
                                                                 for variant in one_shots.WAYS)):
-        for size in [0, SHORTEST] if variant in ("secret", "both") else [None]:
+        for size in (0, SHORTEST) if variant in ("secret", "both") else (None,):
             request = Request(hash_name, variant, 0, size)
             secret = [] if size is None else [address(request.secret) if size else 0, size]
             theirs = 0 if variant == "secret" and not size else request.of_definition(entries)
@@ -258,7 +252,8 @@ def in_one_place(cpu):
     branch depends on their addresses."""
     entries, count, rng = definition.program().run(), 0, random.Random(3)
     cpu.not_zero = []
-    for hash_name, variant, (first, n, own, size) in itertools.product(("3-64", "3-128"), ("secret", "both"), ONE_PLACE):
+    for hash_name, variant, (first, n, own, size) in itertools.product(("3-64", "3-128"), ("secret", "both"),
+                                                                       ONE_PLACE):
         if not cpu.library.has(Request(hash_name, variant, n, size)):
             continue
         data = rng.randbytes(max(first + n, own + size))
@@ -276,7 +271,8 @@ def updates_of_nothing(cpu):
     """Tests that a null chunk of length 0, before, between and after other chunks, leaves the digest unchanged."""
     entries, count = definition.program().run(), 0
     for hash_name, variant, size in (("32", "seed", None), ("64", "seed", None), ("3-64", "default", None),
-                                     ("3-128", "default", None), ("3-64", "secret", SHORTEST), ("3-128", "both", SHORTEST)):
+                                     ("3-128", "default", None), ("3-64", "secret", SHORTEST),
+                                     ("3-128", "both", SHORTEST)):
         for n in (0, 5, 33, 300, 700):
             request = Request(hash_name, variant, n, size)
             state = new_state(cpu, hash_name)
@@ -324,7 +320,7 @@ def some_secrets(cpu):
 
 # Titles, minimum numbers of cases, and test functions: of calls that take no message, and of calls that take one.
 WITHOUT_MESSAGE = [("canonical forms and back", 6, canonical_forms), ("equal hashes", 4, is_equal),
-                   ("the order of hashes", 9, compare), ("the order of hashes in one place", 36, compare_in_one_place),
+                   ("the order of hashes", 9, compare), ("the order of hashes in one place", 108, compare_in_one_place),
                    ("the version", 1, version), ("copies of states", 3, copies),
                    ("freed states are refused", 6, forgotten), ("the derived secret", 2, derived_secret)]
 OF_MESSAGES = [("streams: memory without the mark of a reset", 16, without_mark),
@@ -333,6 +329,6 @@ OF_MESSAGES = [("streams: memory without the mark of a reset", 16, without_mark)
                ("streams: null pieces of no bytes", 30, updates_of_nothing),
                ("null inputs and secrets of no bytes", 14, null_pointers),
                ("a message and a secret in one place", 32, in_one_place)]
-SHORT_SECRETS = [(f"XXH{name}, secrets that are too short, every length", 243, functools.partial(short_secrets, hash_name=name))
-                 for name in ("3-64", "3-128")]
+SHORT_SECRETS = [(f"XXH{name}, secrets that are too short, every length", 243,
+                  functools.partial(short_secrets, hash_name=name)) for name in ("3-64", "3-128")]
 OTHERS = [*WITHOUT_MESSAGE, *OF_MESSAGES, ("made secrets", 5, some_secrets)]

@@ -8,7 +8,7 @@ import re
 from oracle.symbolic_terms import TOP, NotShown, Unsupported, is_same
 
 from . import layouts
-from .object_contents import HIDDEN, WEAK
+from .object_contents import HIDDEN, WEAK, Loaded
 from .memory import WordMemory
 from .objects import TEXT, Program
 from .one_shots import is_plain
@@ -17,15 +17,15 @@ from .values import address, joined, low
 
 FOLDER = os.path.join(TOP, "rust", "asm")
 NAMED = re.compile(r"twox_rust_\d+_(\w+?)(?:_v[34])?|(.+)\.i\d+(?:_v[34])?|twox_rust_(interface)(?:_v[34])?")
-DONE, TOO_SHORT, NO_STREAM, FEW = 0, 1, 2, 3            # return codes
-SHORTEST = 136                    # bytes of a secret
-LONGEST_WITHOUT = 240             # bytes of a message that needs no secret if there is a seed
+DONE, TOO_SHORT, NO_STREAM, FEW = 0, 1, 2, 3  # return codes
+SHORTEST = 136  # bytes of a secret
+LONGEST_WITHOUT = 240  # bytes of a message that needs no secret if there is a seed
 
 
-class OfCargo:
+class OfCargo(Loaded):
     """Overrides for the reader of a source, for either processor."""
 
-    EXPORT = WEAK, HIDDEN         # versions of the crate with the same interface share one copy of the code
+    EXPORT = WEAK, HIDDEN  # versions of the crate with the same interface share one copy of the code
 
     def all_names(self):
         """Returns all symbol names in the source."""
@@ -44,7 +44,7 @@ class CargoProgram(OfCargo, Program):
 
     @staticmethod
     def title_of(section):
-        return TEXT + plain(section[len(TEXT):])
+        return TEXT + plain(section[len(TEXT) :])
 
 
 def plain(name):
@@ -100,7 +100,7 @@ def expect_code(name, code, expected):
 
 
 class ForCargo:
-    SIZES = {"32": layouts.PLAIN["32"].size, "3": layouts.CORE.size}     # of states, in bytes
+    SIZES = {"32": layouts.PLAIN["32"].size, "3": layouts.CORE.size}  # of states, in bytes
 
     @staticmethod
     def has(request):

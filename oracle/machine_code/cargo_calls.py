@@ -45,7 +45,8 @@ def lengths_of(most, least=0):
 def refused_inputs(cpu, message, secret, code):
     """Tests all inputs and secrets of two spans of lengths: (least, most)."""
     count = 0
-    for hash_name, (m, n, of_n), (s, size, of_size) in itertools.product(HASHES, [*lengths_of(*message)], [*lengths_of(*secret)]):
+    for hash_name, (m, n, of_n), (s, size, of_size) in itertools.product(HASHES, [*lengths_of(*message)],
+                                                                         [*lengths_of(*secret)]):
         with given(*of_n, *of_size):
             long_input(cpu, hash_name, m("m"), n, s("s"), size, code)
             count += 1
@@ -65,8 +66,8 @@ def secrets_of_long_inputs(cpu):
 # ---- refused chunks
 
 def chunks(waiting):
-    """Yields the lengths of a chunk by the paths of a write, which has another one for a few bytes that fit in the buffer
-    beside the waiting ones."""
+    """Yields the lengths of a chunk by the paths of a write, which has another one for a few bytes that fit in the
+    buffer beside the waiting ones."""
     (place, n, facts), *few = lengths_of(FEW_BYTES)
     more = minus(plus(n, waiting), CAPACITY + 1)
     is_split = not is_same_number(waiting, 0) and is_natural(minus(CAPACITY, waiting))
@@ -115,7 +116,8 @@ def out_of_range(cpu):
             state = new_state(cpu, "3-64")
             for at, value in fields:
                 state.store(at, 8, value)
-            refused(cpu, "3-64", state, NO_STREAM, (address(secret), secret.length), dict(fields)[layouts.CORE.buffer_usage])
+            refused(cpu, "3-64", state, NO_STREAM, (address(secret), secret.length),
+                    dict(fields)[layouts.CORE.buffer_usage])
             count += 1
     return count
 

@@ -1,12 +1,12 @@
-"""Proves the chunks of XXH3 streams of a cargo source, like xxh3_states.py for the C library. A stream has no mark, seed or
-secret: each call takes the secret as an argument."""
+"""Proves the chunks of XXH3 streams of a cargo source, like xxh3_states.py for the C library. A stream has no mark,
+seed or secret: each call takes the secret as an argument."""
 from oracle.symbolic_terms import at_most, is_same_number, minus
 
 from . import layouts
 from .xxh3_states import CallersSecret, Through
 from .xxh3_updates import LONG_PIECE, UPDATES
 
-FEW = 64                                      # bytes of a chunk, up to which a write has a separate path
+FEW = 64  # bytes of a chunk, up to which a write has a separate path
 
 
 class CargoThrough(Through):
@@ -14,7 +14,8 @@ class CargoThrough(Through):
 
 
 class CargoUpdates(CallersSecret):
-    at, TASKS, TITLE, HAS_SEED = layouts.CORE, (UPDATES,), "pieces of XXH3", (0,)
+    at, TITLE, HAS_SEED = layouts.CORE, "pieces of XXH3", (0,)
+    TASKS: tuple[str, ...] = (UPDATES,)
     SPANS = (1, FEW), (FEW + 1, LONG_PIECE - 1), (LONG_PIECE, None)
 
     def own(self):

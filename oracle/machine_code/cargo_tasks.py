@@ -26,7 +26,8 @@ ANY_SECRET = [f"{name}:secret" for name in cargo_calls.HASHES]
 
 
 def programs():
-    return {f"cargo's {name}": assembled(f"{FOLDER}/{name}.s", V1, functools.partial(CargoProgram, name)) for name in NAMES}
+    return {f"cargo's {name}": assembled(f"{FOLDER}/{name}.s", V1, functools.partial(CargoProgram, name))
+            for name in NAMES}
 
 
 # ---- the tasks
@@ -34,9 +35,9 @@ def programs():
 def choose(texts, like, is_all):
     """Returns the tasks on `texts`; `like` has c/asm's sources."""
     processors = tasks.makers(texts)
-    out = [*with_begin([*long_input_tasks(processors, is_all), *piece_tasks(tasks.before_v4(processors), is_all, SOME_UPDATES),
-                        *xxh3_tasks(processors, is_all), *tasks.any_secret_tasks(processors, is_all, ANY_SECRET)]),
-           *call_tasks(texts, processors, like)]
+    pieces = piece_tasks(tasks.before_v4(processors), is_all, SOME_UPDATES)
+    out = [*with_begin([*long_input_tasks(processors, is_all), *pieces, *xxh3_tasks(processors, is_all),
+                        *tasks.any_secret_tasks(processors, is_all, ANY_SECRET)]), *call_tasks(texts, processors, like)]
     out.insert(0, tasks.counted(f"{BEGIN}each export has its task", EXPORTS * len(texts),
                                lambda: exports_left_out(texts, [task.title for task in out])))
     return out
@@ -97,8 +98,8 @@ def refusal_tasks(of):
 
 def call_tasks(texts, processors, like):
     return [*(tasks.counted(f"{BEGIN}functions of {name} that are c/asm's, byte for byte", LEAST_SHARED,
-                           functools.partial(expect_shared, texts[f"cargo's {name}"], like[name])) for name in LIKE),
+                            expect_shared, texts[f"cargo's {name}"], like[name]) for name in LIKE),
             tasks.counted(f"{BEGIN}exports of {V4} that have the code of {V3}", EXPORTS - len(WIDENED),
-                         lambda: expect_code_of_v3(texts[f"cargo's {V4}"], texts[f"cargo's {V3}"])),
-            *with_begin(refusal_tasks(functools.partial(tasks.of_each, processors))),
-            *with_begin([tasks.frames_task(texts, FRAMED), tasks.assembler_task([(f"{FOLDER}/{name}.s", V1) for name in NAMES])])]
+                          expect_code_of_v3, texts[f"cargo's {V4}"], texts[f"cargo's {V3}"]),
+            *with_begin([*refusal_tasks(functools.partial(tasks.of_each, processors)), tasks.frames_task(texts, FRAMED),
+                         tasks.assembler_task([(f"{FOLDER}/{name}.s", V1) for name in NAMES])])]

@@ -40,8 +40,8 @@ def variables(q, u, b, j, f, L=0):
     n = max(0, left - 64) // 64
     at = (j + g) % q
     D, e = divmod(n - (q - at), q)
-    return {"q": q, "u": u, "b": b, "j": j, "f": f, "g": g, "r": r, "i": q - j, "y": g - (q - j), "n": n, "D": D, "e": e,
-            "left": left - 64 * n, "more": L - 33, "w": L - 65, "rest": 0}
+    return {"q": q, "u": u, "b": b, "j": j, "f": f, "g": g, "r": r, "i": q - j, "y": g - (q - j), "n": n, "D": D,
+            "e": e, "left": left - 64 * n, "more": L - 33, "w": L - 65, "rest": 0}
 
 
 def has(point, facts, values):
@@ -127,5 +127,6 @@ def left_out(proof, count):
     taken += [(xxh3_updates.TAKE_WIDENED.name, xxh3_updates.BLOCK)] * proof.is_widened()
     found = [*without_digest(proof.digests(), proof, count)] if xxh3_updates.DIGESTS in proof.TASKS else []
     if xxh3_updates.STRIPES in proof.TASKS:
-        found += [*without_update(proof.all_updates(), proof, count), *without_taken(proof.all_taken(), proof, taken, count)]
+        found += [*without_update(proof.all_updates(), proof, count),
+                  *without_taken(proof.all_taken(), proof, taken, count)]
     return found

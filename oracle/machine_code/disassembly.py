@@ -14,9 +14,9 @@ from .sources import GNU
 SLOT = 16                                     # bytes between instructions that are assembled separately
 REMARK = re.compile(r"\s*(#(?!\w|-)|//).*")
 NOPS = {bytes.fromhex(x) for x in (
-    "90", "0f1f00", "0f1f4000", "0f1f440000", "660f1f440000", "0f1f8000000000", "0f1f840000000000", "660f1f840000000000",
-    "662e0f1f840000000000", "66662e0f1f840000000000", "6666662e0f1f840000000000", "666666662e0f1f840000000000",
-    "66666666662e0f1f840000000000", "6666666666662e0f1f840000000000")}
+    "90", "0f1f00", "0f1f4000", "0f1f440000", "660f1f440000", "0f1f8000000000", "0f1f840000000000",
+    "660f1f840000000000", "662e0f1f840000000000", "66662e0f1f840000000000", "6666662e0f1f840000000000",
+    "666666662e0f1f840000000000", "66666666662e0f1f840000000000", "6666666666662e0f1f840000000000")}
 CONDITIONS = {f"j{name}": k for k, name in enumerate("o no b ae e ne be a s ns p np l ge le g".split())}
 assembled = {}
 ARM_CONDITIONS = {name: k for k, name in enumerate("eq ne cs cc mi pl vs vc hi ls ge lt gt le".split())}
@@ -26,15 +26,15 @@ def lines_of(program):
     """Yields (section, offset, bytes, text, is relocated) of each instruction."""
     for section, lines in program.listing.items():
         for at, raw, text in lines:
-            yield section, at, raw, " ".join(REMARK.sub("", text).split()), program.is_relocated(section, at, at + len(raw))
+            yield (section, at, raw, " ".join(REMARK.sub("", text).split()),
+                   program.is_relocated(section, at, at + len(raw)))
 
 
 def expect_bytes(program):
     """Refuses an instruction whose bytes differ from those of its printed text."""
-    lines = list(lines_of(program))
     arch, led = ("x86-64", led_on_x86) if program.object.machine == X86_64 else ("aarch64", led_on_arm)
     alone, bad = [], []
-    for section, at, raw, text, is_relocated in lines:
+    for section, at, raw, text, is_relocated in lines_of(program):
         expected = led(at, raw, text, is_relocated)
         if expected is None:
             alone.append((section, at, raw, text))
@@ -53,8 +53,8 @@ def assembled_alone(texts, arch):
     with tempfile.TemporaryDirectory(prefix="machine-text-") as workdir:
         source, built = os.path.join(workdir, "alone.s"), os.path.join(workdir, "alone.o")
         with open(source, "w", encoding="utf-8") as file:
-            file.writelines(f"\t{text}\n\t.balign {SLOT},0\n" if arch == "x86-64" else f"\t{text}\n\t.space {SLOT - 4},0\n"
-                            for text in texts)
+            file.writelines(f"\t{text}\n\t.balign {SLOT},0\n" if arch == "x86-64" else
+                            f"\t{text}\n\t.space {SLOT - 4},0\n" for text in texts)
         done = subprocess.run([GNU[arch], source, "-o", built], capture_output=True, text=True)
         if done.returncode:
             raise Unsupported(f"what was printed isn't assembled: {done.stderr.splitlines()[1:2]}")

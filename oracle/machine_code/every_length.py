@@ -10,8 +10,8 @@ import itertools
 
 from oracle import specs
 from oracle.symbolic_terms import (LONGEST, LONGEST_SECRET, REFUSALS, Bytes, Input, NotShown, Poly, Request, at_most,
-                                   definition, given, minus, nodes, parts_of, plus, seed_symbol, suppositions, times, value_at,
-                                   variable)
+                                   definition, given, minus, nodes, parts_of, plus, seed_symbol, suppositions, times,
+                                   value_at, variable)
 
 from . import one_shots
 from .induction import Family, Loops
@@ -85,16 +85,16 @@ def with_rest(case, rest):
 
 def turns_of(case, point):
     """Returns the least and the greatest number of turns (None: any) in a case, at values of the other variables."""
-    least, most = 0, None
+    least, ends = 0, []
     for fact in case.facts:
         c, step = value_at(fact, {TURNS: 0, **point}), parts_of(fact).get((TURNS,), 0)
         if step > 0:
             least = max(least, -(c // step))
         elif step < 0:
-            most = c // -step if most is None else min(most, c // -step)
+            ends.append(c // -step)
         elif c < 0:
             return 1, 0
-    return least, most
+    return least, min(ends, default=None)
 
 
 def spans(found, period):

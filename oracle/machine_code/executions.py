@@ -11,7 +11,7 @@ from .instructions import V3, V4
 from .objects import Immediate, Register
 
 C, DEBIANS = os.path.join(TOP, "c"), "/usr/lib/x86_64-linux-gnu/libxxhash.so.0"
-CALLS, SECONDS = 300, 120         # number of calls of each group; of one change, since changed code may not end
+CALLS, SECONDS = 300, 120  # number of calls of each group; of one change, since changed code may not end
 COMMA = re.compile(r",(?![^(]*\))")
 # A jump in a longer form than the assembler's own, and the jumps by the last byte of their code.
 FAR_JUMP = re.compile(r"\t\.byte 15,(\d+)\n\t\.long (\S+)-\.-4\n")
@@ -20,6 +20,7 @@ JUMPS = {130: "jb", 131: "jae", 132: "je", 133: "jne", 134: "jbe", 135: "ja"}
 
 class Library:
     """The C library, built in a folder from an assembly source or a changed one."""
+
     tools, emulator, reference = "", [], DEBIANS
 
     def __init__(self, name, program, folder):

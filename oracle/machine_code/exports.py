@@ -4,7 +4,7 @@ from oracle.symbolic_terms import NotShown
 
 from . import streams
 from .cargo_exports import shared
-from .one_shots import NAMES, WAYS, is_plain
+from .one_shots import NAMES, WAYS, is_plain, name_of
 
 SAME = "names of another's code"
 STREAMS, FORGET = "streams", "freed states"
@@ -18,18 +18,19 @@ def shown_by(program=None):
         out.update({f"{name}_canonicalFromHash": "canonical forms", f"{name}_hashFromCanonical": "canonical forms"})
     for name in ("32", "64", "3"):
         out.update({f"XXH{name}_copyState": "copies of states", f"twox_c_forget_xxh{name}": FORGET})
-    for hash_name, name in NAMES.items():
+    for hash_name in NAMES:
         variants = ["seed"] if is_plain(hash_name) else WAYS
-        out.update({name + ("" if is_plain(hash_name) else WAYS[variant]): f"XXH{hash_name}, {variant}" for variant in variants})
+        out.update({name_of(hash_name, variant): f"XXH{hash_name}, {variant}" for variant in variants})
         ways = ["reset", "update", "digest", *([] if is_plain(hash_name) else ["reset_withSeed"])]
         out.update({f"{streams.proved(hash_name)}_{way}": STREAMS for way in ways})
-    ways = "reset_xxh3_secret", "reset_xxh3_secret_and_seed", "update_xxh3", "digest_64", "digest_128"
+    ways = ["reset_xxh3_secret", "reset_xxh3_secret_and_seed", "update_xxh3", "digest_64", "digest_128"]
     out.update({f"twox_c_{way}": STREAMS for way in ways})
     return {**out, **dict.fromkeys(twins(program), SAME)}
 
 
 def twins(program=None):
-    """Maps names to the name with the same code: calls with two names, and `_dispatch` variants. On ARM no C file wraps these."""
+    """Maps names to the name with the same code: calls with two names, and `_dispatch` variants. On ARM no C file wraps
+    these."""
     out = {"XXH128": "XXH3_128bits_withSeed"}
     for name in ("XXH3_64bits", "XXH3_128bits"):
         for way in ("", "_withSeed", "_withSecret"):

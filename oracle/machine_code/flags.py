@@ -7,8 +7,8 @@
 import collections
 import operator
 
-from oracle.symbolic_terms import (OPAQUE, TESTS, Node, Undecided, Unsupported, is_natural, is_number, is_same_number, lifted,
-                                   minus, operations, plus)
+from oracle.symbolic_terms import (OPAQUE, TESTS, Node, Undecided, Unsupported, is_natural, is_number, is_same_number,
+                                   lifted, minus, operations, plus)
 
 from .memory import ENTRY, lie_apart
 from .values import Address, Either, quotients

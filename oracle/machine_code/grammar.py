@@ -37,10 +37,10 @@ NUMBER = rf"#-?(?:{HEX}|{DECIMAL})"
 WORD = "(?:[xw](?:[12]?[0-9]|30|zr)|w?sp)"
 VECTOR = r"(?:[qds][0-9]+|v[0-9]+\.[0-9]+[bhsd]|v[0-9]+\.[bhsd]\[[0-9]+\]|\{v[0-9]+\.[bhsd]\}\[[0-9]+\])"
 PLACE = rf"\[{WORD}(?:, (?:{NUMBER}|{WORD}|#:lo12:{LABEL}))?\](?:!|, {NUMBER})?"
-ARM_OPERAND = rf"(?:{WORD}|{VECTOR}|{NUMBER}|{PLACE}|(?:lsl|lsr|ror) #{DECIMAL}|pldl1keep|eq|ne|cs|cc|hi|ls|:lo12:{LABEL})"
-ARM = "|".join(["ret|nop", rf"(?:bl?|b\.[a-z]{{2}}) (?:{LABEL}|{NAME})",
-                rf"(?:cbn?z|tbn?z|adrp) {WORD}, (?:#{DECIMAL}, )?{LABEL}",
-                rf"(?!b |bl |cb|tb|adrp)[a-z][a-z0-9]* {ARM_OPERAND}(?:, {ARM_OPERAND}){{0,4}}", r"\.inst 0x[0-9a-f]{8}"])
+ARM_OPERAND = (rf"(?:{WORD}|{VECTOR}|{NUMBER}|{PLACE}|(?:lsl|lsr|ror) #{DECIMAL}|pldl1keep|eq|ne|cs|cc|hi|ls|"
+               rf":lo12:{LABEL})")
+ARM = (rf"ret|nop|(?:bl?|b\.[a-z]{{2}}) (?:{LABEL}|{NAME})|(?:cbn?z|tbn?z|adrp) {WORD}, (?:#{DECIMAL}, )?{LABEL}|"
+       rf"(?!b |bl |cb|tb|adrp)[a-z][a-z0-9]* {ARM_OPERAND}(?:, {ARM_OPERAND}){{0,4}}|\.inst 0x[0-9a-f]{{8}}")
 GRAMMARS = {"x86-64": (X86, SHADOW_STACK), "aarch64": (ARM, ())}     # the instructions, and the notes at the end
 
 
@@ -61,8 +61,8 @@ class Lines:
         return self.lines[self.number - 1] if self.number <= len(self.lines) else ""
 
     def refuse(self, expected):
-        raise Unsupported(f"{self.path.rsplit('/', 1)[-1]}:{self.number}: not of the grammar, which wants {expected} here: "
-                          f"{self.next_one()[:80]!r}")
+        raise Unsupported(f"{self.path.rsplit('/', 1)[-1]}:{self.number}: not of the grammar, which wants {expected} "
+                          f"here: {self.next_one()[:80]!r}")
 
     def has(self, pattern):
         """Reads the next line if it matches. Returns the match or None."""

@@ -7,8 +7,8 @@ dropped. The flags are unset at a loop head."""
 import contextlib
 import functools
 
-from oracle.symbolic_terms import (REFUSALS, RUNS, Induction, Input, Node, NotShown, Undecided, divided, given, is_natural,
-                                   is_number, is_same_number, minus, plus, same, step_between, times)
+from oracle.symbolic_terms import (REFUSALS, RUNS, Induction, Input, Node, NotShown, Undecided, divided, given,
+                                   is_natural, is_number, is_same_number, minus, plus, same, step_between, times)
 
 from .values import Address, half_of, joined, with_half
 
@@ -57,7 +57,7 @@ class Family:
 
 def cells_of(cpu):
     """Maps all cells of a processor and its live objects to their values. A memory cell's key includes its size."""
-    out = {("register", name): x for name, x in cpu.registers.items()}
+    out: dict = {("register", name): x for name, x in cpu.registers.items()}
     out.update({(HALF, name): half for name, x in cpu.registers.items() for half in [half_of(x)] if half is not None})
     out.update({("lane", k, lane): x for k, lanes in enumerate(cpu.vectors) for lane, x in enumerate(lanes)})
     for memory in [cpu.stack, *cpu.live]:

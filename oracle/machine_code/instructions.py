@@ -17,7 +17,7 @@ WIDE = "rax", "rcx", "rdx", "rbx", "rsp", "rbp", "rsi", "rdi", *(f"r{k}" for k i
 LETTERS = {8: "b", 16: "w", 32: "l", 64: "q"}
 
 
-def parts_of_registers():
+def parts_of_registers() -> dict[str, tuple[str, int, int]]:
     """Maps each register name to (the full register, its first bit in it, its width)."""
     out = {}
     for name in WIDE:

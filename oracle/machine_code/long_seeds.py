@@ -1,7 +1,7 @@
 """Proves the secrets generated from seeds of 2 ^ 32 bytes and more, by induction over the loops of their hash. For such
 lengths a source divides positions with another instruction."""
-from oracle.symbolic_terms import (LONGEST, Bytes, Input, NotShown, at_most, definition, given, is_same, minus, suppositions,
-                                   variable)
+from oracle.symbolic_terms import (LONGEST, Bytes, Input, NotShown, at_most, definition, given, is_same, minus,
+                                   suppositions, variable)
 
 from .every_length import TURNS, EveryLength, xxh3_case
 from .memory import WordMemory

@@ -27,16 +27,6 @@ ReturnTo = collections.namedtuple("ReturnTo", "section at")
 class WordMemory(Memory):
     """Memory object whose cells hold values of registers. Parts of addresses can't be loaded."""
 
-    def allow(self, at, n):
-        """Refuses a store outside of the object, or at a symbolic offset."""
-        if not isinstance(at, int):
-            raise Unsupported(f"a store at {at} of {self.name}")
-        self.check(at, n)
-
-    def store(self, at, n, value):
-        self.allow(at, n)
-        super().store(at, n, value)
-
     def load(self, at, n):
         cell = self.cells.get(at)
         if cell is not None and cell[0] == n:

@@ -18,7 +18,7 @@ import random
 import tempfile
 
 from oracle.reasons import CRASH, UNNOTICED, Called, Reasons, is_fault
-from oracle.symbolic_terms import definition, nodes
+from oracle.symbolic_terms import definition, nodes, signed
 
 from .executions import Library
 from .instructions import PARTS, SETS, TABLE, VECTORS, letters
@@ -27,19 +27,41 @@ from .one_shots import is_plain
 from .queries import FOR_C, Call, are_long, by_induction, further, near, queries, reaching, takes_stripes
 
 FOLDER = os.path.join(os.path.dirname(os.path.abspath(__file__)), "equivalent_mutants")
-LIMIT = 40_000                   # instructions of a changed source's call
+LIMIT = 40_000  # instructions of a changed source's call
 MOST, NEAR, FEWEST = 200, 40, 10  # shortest requests; generated requests near them; requests tested on symbols
-SEEDS = 10                        # random seeds with --all; one otherwise
-TASKS = 4                          # tasks into which the changes of the sources for ARM are split, with --all
+SEEDS = 10  # random seeds with --all; one otherwise
+TASKS = 4  # tasks into which the changes of the sources for ARM are split, with --all
 IDLE = "nop", "prefetcht0", "vzeroupper", "ud2"
-ALIKE = [("je", "jne"), ("jb", "jbe"), ("ja", "jae"), ("jb", "jae"), ("sete", "setne"), ("cmovb", "cmovae"),
-         ("add", "sub"), ("xor", "or"), ("and", "or"), ("inc", "dec"), ("neg", "not"), ("shl", "shr"), ("mul", "div"),
-         ("movzbl", "movsbl"), ("imul", "add"), ("movq", "movl"), ("paddq", "psubq"), ("paddq", "pxor"),
-         ("pxorq", "porq"), ("psrlq", "psllq"), ("punpcklqdq", "punpckhqdq"), ("pmuludq", "paddq"), ("pmulld", "paddd"),
-         ("pslldq", "psrldq")]
+ALIKE = [
+    ("je", "jne"),
+    ("jb", "jbe"),
+    ("ja", "jae"),
+    ("jb", "jae"),
+    ("sete", "setne"),
+    ("cmovb", "cmovae"),
+    ("add", "sub"),
+    ("xor", "or"),
+    ("and", "or"),
+    ("inc", "dec"),
+    ("neg", "not"),
+    ("shl", "shr"),
+    ("mul", "div"),
+    ("movzbl", "movsbl"),
+    ("imul", "add"),
+    ("movq", "movl"),
+    ("paddq", "psubq"),
+    ("paddq", "pxor"),
+    ("pxorq", "porq"),
+    ("psrlq", "psllq"),
+    ("punpcklqdq", "punpckhqdq"),
+    ("pmuludq", "paddq"),
+    ("pmulld", "paddd"),
+    ("pslldq", "psrldq"),
+]
 
 
 # ---- outcome of a change
+
 
 def outcome(cpu, instructions, asked, rng, near_to, more):
     """Returns the outcome of changed instructions: tests the requests that run them, requests near those, a few on
@@ -64,16 +86,19 @@ def outcome(cpu, instructions, asked, rng, near_to, more):
 
 # ---- changes
 
+
 def other_register(name, rng):
     if name in VECTORS:
         return f"{name[:3]}{(VECTORS[name] + rng.randrange(1, 16)) % 16}"
     whole, first, width = PARTS[name]
-    return rng.choice([other for other, (to, at, n) in PARTS.items() if (at, n) == (first, width) and
-                       to not in (whole, "rsp")] or [name])
+    return rng.choice(
+        [other for other, (to, at, n) in PARTS.items() if (at, n) == (first, width) and to not in (whole, "rsp")]
+        or [name]
+    )
 
 
 def with_operand(x, k, operand):
-    return x._replace(operands=(*x.operands[:k], operand, *x.operands[k + 1:]))
+    return x._replace(operands=(*x.operands[:k], operand, *x.operands[k + 1 :]))
 
 
 def of_operand(x, k, rng):
@@ -121,6 +146,12 @@ def is_form(x, name):
     return TABLE.get((x.mnemonic, letters(x)), (None,))[0] in SETS[name]
 
 
+def has_encoding(x):
+    """True if an instruction can hold its numbers: 32 bits, extended by their sign, except in movabs."""
+    numbers = [signed(y.value, 64) for y in x.operands if isinstance(y, Immediate)]
+    return x.mnemonic == "movabs" or all(-(1 << 31) <= number < 1 << 32 for number in numbers)
+
+
 def anywhere(_):
     return True
 
@@ -136,8 +167,11 @@ def random_changes(cpu, is_selected, places, rng):
 def keys(cpu, places, salt):
     """Yields (hash, place) of each instruction of the places' functions."""
     seen = collections.Counter()
-    for section, at, x in ((section, at, x) for section in sorted({section for section, _ in places})
-                           for at, x in sorted(cpu.program.sections[section].items())):
+    for section, at, x in (
+        (section, at, x)
+        for section in sorted({section for section, _ in places})
+        for at, x in sorted(cpu.program.sections[section].items())
+    ):
         what = f"{cpu.program.title_of(section)} {written(x)}"
         seen[what] += 1
         yield hashlib.sha256(f"{salt} {what} {seen[what]}".encode()).hexdigest(), (section, at)
@@ -153,8 +187,8 @@ def changed_at(cpu, place, rng):
     if x.end in cpu.program.sections[section]:
         ways += swapped(x, cpu.program.sections[section][x.end])
     what, instructions = rng.choice(ways)
-    if all(is_form(y, cpu.name) for y in instructions) and instructions != [x]:
-        title = cpu.program.title_of(section)[len(TEXT):]
+    if all(is_form(y, cpu.name) and has_encoding(y) for y in instructions) and instructions != [x]:
+        title = cpu.program.title_of(section)[len(TEXT) :]
         text = f"{title} {written(x)}: {what} {'; '.join(map(written, instructions))} (at {at:#x})"
         yield place, text, instructions
 
@@ -174,12 +208,14 @@ def written(x):
 
 # ---- the task
 
+
 def more_ways(cpu, reached, asked, entries, is_all, section, beside):
     """Yields further queries about a change in a section: calls without a request, inductions with --all, and further
     requests. A function that takes many stripes always gets inductions: its requests take long. If no request reaches
     the change, those of XXH32's and XXH64's streams are used."""
     requests = [query for query in reached if query.request] or [
-        query for query in asked if query.request and query.request.cuts and is_plain(query.request.hash_name)]
+        query for query in asked if query.request and query.request.cuts and is_plain(query.request.hash_name)
+    ]
     yield from (query.over_symbols for query in reached if not query.request)
     if beside.updates and (is_all or takes_stripes(cpu.program, section)):
         yield from (query.over_symbols for query in by_induction(cpu.program, requests, section, beside.updates))
@@ -188,20 +224,24 @@ def more_ways(cpu, reached, asked, entries, is_all, section, beside):
 
 
 def noticed(name, make, count, is_all, is_selected=anywhere, beside=FOR_C):
-    """Returns the number of tested changes of a source, the failures, and remarks. `is_selected` selects the sections."""
+    """Returns the number of tested changes of a source, the failures, and remarks. `is_selected` selects sections."""
     cpu = make()
     some = of_seeds(functools.partial(random_changes, cpu, is_selected), count, SEEDS if is_all else 1)
     if beside is FOR_C:
         return noticed_by_library(name, cpu, some, is_all)
     known = Reasons(os.path.join(FOLDER, f"{name}.txt"))
     texts, bad = noticed_of(cpu, some, known, is_all, beside)
-    return len(texts), bad + [f"no change needs the reason of {pattern}" for pattern in (known.unused(texts) if is_all else ())]
+    return len(texts), bad + [
+        f"no change needs the reason of {pattern}" for pattern in (known.unused(texts) if is_all else ())
+    ]
 
 
 def noticed_by_library(name, cpu, changes, is_all):
     """The same for a source of the C library, which is built and called."""
+
     def call(_, after):
         return library.first_difference([cpu.program.sections[x.section][x.at] for x in after], after)
+
     with tempfile.TemporaryDirectory(prefix="machine-text-") as workdir:
         library = Library(name, cpu.program, os.path.join(workdir, "library"))
         return noticed_by_calls(cpu, changes, is_all, call)
@@ -210,7 +250,8 @@ def noticed_by_library(name, cpu, changes, is_all):
 def of_seeds(one, count, seeds=1):
     """Returns a function of places, as `noticed_of` takes it: `count` changes of each of `seeds` random seeds."""
     return lambda places: itertools.chain.from_iterable(
-        itertools.islice(one(places, random.Random(1 + number)), count) for number in range(seeds))
+        itertools.islice(one(places, random.Random(1 + number)), count) for number in range(seeds)
+    )
 
 
 def part_of(changes, part):

@@ -4,9 +4,8 @@ import re
 import struct
 
 from oracle.symbolic_terms import Unsupported
-from assembly.eh_frame import Table
-from assembly.same_bytes import (FRAMES, LOADED, NONE, NOTE, RELA, STRTAB, SYMTAB, USED, Object, difference, differences, is_global,
-                                 notes_of, properties_of)
+from assembly.same_bytes import (FRAMES, LOADED, NONE, NOTE, RELA, STRTAB, SYMTAB, USED, Object, is_global, notes_of,
+                                 properties_of)
 
 PROGBITS, NOBITS, UNWIND = 1, 8, 0x70000001           # section types
 CODE, CONSTANTS, MERGEABLE, WRITTEN, INFO = LOADED | 4, LOADED, LOADED | 0x10, LOADED | 1, 0x40      # section flags
@@ -14,7 +13,6 @@ LABEL, FUNCTION, SECTION = 0, 2, 3                    # symbol types
 GLOBAL, WEAK = 1, 2                                   # symbol bindings
 DEFAULT, HIDDEN = 0, 2                                # symbol visibilities
 OUTER = "memcpy", "memmove", "memset"                 # functions that the source calls and another library has
-ELSEWHERE = Table, difference, differences            # used by unwinding.py and sources.py
 HEAD = (1, 0, 0)                                      # version, system and its version
 X86_64, AARCH64 = 62, 183
 PROPERTIES = 5, b"GNU\0"
@@ -26,8 +24,9 @@ LISTED = [(rf"\.text\.{NAME}", (PROGBITS,), CODE), (rf"\.rodata(\.{NAME})?", (PR
           (r"\.rodata\.cst(4|8|16|32)", (PROGBITS,), MERGEABLE), (r"\.eh_frame", (PROGBITS, UNWIND), CONSTANTS),
           (r"\.note\.gnu\.property", (NOTE,), CONSTANTS), (rf"\.rela(\.eh_frame|\.text\.{NAME})", (RELA,), INFO),
           (r"\.symtab", (SYMTAB,), 0), (r"\.strtab|\.shstrtab", (STRTAB,), 0)]
-EMPTY = [(r"", (NONE,), 0), (r"\.text", (PROGBITS,), CODE), (r"\.data", (PROGBITS,), WRITTEN), (r"\.bss", (NOBITS,), WRITTEN),
-         (r"\.note\.GNU-stack", (PROGBITS,), 0)]
+EMPTY: list[tuple[str, tuple[int, ...], int]] = [
+    (r"", (NONE,), 0), (r"\.text", (PROGBITS,), CODE), (r"\.data", (PROGBITS,), WRITTEN),
+    (r"\.bss", (NOBITS,), WRITTEN), (r"\.note\.GNU-stack", (PROGBITS,), 0)]
 
 
 def require(holds, why):
@@ -54,14 +53,16 @@ def expect_listed(object_, export):
 def expect_section(object_, head):
     known = LISTED if head.size else EMPTY
     require(any(re.fullmatch(name, head.name, re.ASCII) and head.kind in types and head.flags == flags
-                for name, types, flags in known), f"the section {head.name} of kind {head.kind} and flags {head.flags:#x}")
+                for name, types, flags in known),
+            f"the section {head.name} of kind {head.kind} and flags {head.flags:#x}")
     require(head.align <= MOST_ALIGNED, f"{head.name} at a multiple of {head.align}")
     if head.flags == MERGEABLE:
         entry = int(head.name[len(".rodata.cst"):])
         require(head.entry == head.align == entry and not head.size % entry, f"entries of {head.name} of another size")
     if head.kind == RELA:
         target = object_.heads[head.info].name if head.info < len(object_.heads) else ""
-        require(head.name == ".rela" + target and object_.heads[head.link].kind == SYMTAB, f"{head.name} of another section")
+        require(head.name == ".rela" + target and object_.heads[head.link].kind == SYMTAB,
+                f"{head.name} of another section")
 
 
 def expect_notes(object_):
@@ -69,7 +70,8 @@ def expect_notes(object_):
     found = [head for head in object_.heads if head.kind == NOTE]
     notes = [note for head in found for note in notes_of(object_.body(head), 8)]
     require([key for key, _ in notes] == ([PROPERTIES] if object_.machine == X86_64 else []), "other notes")
-    require(all(content[:12] == SHADOW_STACK and len(content) <= 16 for _, whole in notes for content in properties_of(whole)) and
+    require(all(content[:12] == SHADOW_STACK and len(content) <= 16
+                for _, whole in notes for content in properties_of(whole)) and
             all(list(properties_of(whole)) for _, whole in notes), f"a property beyond {SHADOW_STACK.hex()} and {USED}")
 
 
@@ -84,8 +86,10 @@ def expect_symbol(object_, symbol, export, begun):
     head = object_.heads[symbol.section]
     if is_global(symbol):
         require(symbol_type == FUNCTION, f"{symbol.name} is no function")
-        require((binding, symbol.other) == export, f"{symbol.name} of the binding {binding} and visibility {symbol.other}")
-    require(symbol_type in (LABEL, FUNCTION, SECTION) and symbol.value <= head.size, f"{symbol.name} of kind {symbol_type}")
+        require((binding, symbol.other) == export,
+                f"{symbol.name} of the binding {binding} and visibility {symbol.other}")
+    require(symbol_type in (LABEL, FUNCTION, SECTION) and symbol.value <= head.size,
+            f"{symbol.name} of kind {symbol_type}")
     if symbol_type != FUNCTION:
         return set()
     require((symbol.value, symbol.size) == (0, head.size) and head.flags == CODE and head.name not in begun,

@@ -31,7 +31,7 @@ TARGET = re.compile(r"([0-9a-f]+)(?: <.*>)?")
 class Program(Loaded):
     """The instructions of a program: section -> address -> Instruction."""
 
-    RELOCATIONS = PC32, PLT32
+    RELOCATIONS: tuple[int, ...] = PC32, PLT32
 
     def __init__(self, path):
         super().__init__(path)
@@ -104,8 +104,8 @@ class Program(Loaded):
 
 
 def listing(path, objdump="objdump", options=(), pattern=LINE, order=1):
-    """Maps each section to (address, bytes, text) of each instruction, as printed by objdump. `order` is -1 if it prints
-    the last byte first."""
+    """Maps each section to (address, bytes, text) of each instruction, as printed by objdump. `order` is -1 if it
+    prints the last byte first."""
     command = [objdump, "-d", "-z", "-w", *options, path]
     found, lines = {}, None
     for line in subprocess.run(command, check=True, capture_output=True, text=True).stdout.splitlines():

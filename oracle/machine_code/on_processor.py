@@ -20,33 +20,61 @@ from .processor import CALLEE_SAVED, LANES, VECTORS_COUNT, Processor
 from .scalar import CONDITIONS
 from .values import address
 
-ROUNDS = 40                       # inputs per instruction
-EDGES = bytes((0, 1, 127, 128, 255)[byte % 5] for byte in range(256))      # maps a random byte to one of these
+ROUNDS = 40  # inputs per instruction
+EDGES = bytes((0, 1, 127, 128, 255)[byte % 5] for byte in range(256))  # maps a random byte to one of these
 MOSTLY = bytes(255 if byte < 180 else 0 for byte in range(256))
 FEATURES = {V3: {"avx2", "bmi2", "movbe"}, V4: {"avx512f", "avx512bw", "avx512cd", "avx512dq", "avx512vl"}}
-BEHIND = "jmp", "call", "ret", "push", "pop", "nop", "ud2", "vzeroupper", "j"      # mnemonics that SNIPPETS tests
+BEHIND = "jmp", "call", "ret", "push", "pop", "nop", "ud2", "vzeroupper", "j"  # mnemonics that SNIPPETS tests
 LOADED = [name for name in WIDE if name != "rsp"]
 # Offsets in a function's buffer: registers, vectors, the word that sets the flags, the instruction's memory operand,
 # and then the registers, vectors and flags afterwards.
-REGISTERS, VECTORS, COMPARED, MEMORY, AFTER, VECTORS_AFTER, FLAGS_AFTER, SIZE = 0, 128, 2176, 2240, 2368, 2496, 4544, 4608
-WHOLE = 8 * LANES                 # bytes of a vector
+REGISTERS, VECTORS, COMPARED, MEMORY, AFTER, VECTORS_AFTER, FLAGS_AFTER, SIZE = (
+    0,
+    128,
+    2176,
+    2240,
+    2368,
+    2496,
+    4544,
+    4608,
+)
+WHOLE = 8 * LANES  # bytes of a vector
 FLAGS = "b", "e", "a"
-SOME_FLAGS = {**dict.fromkeys(("imul", "mul", "div", "shld", "shrd", "rol", "ror"), ()),      # the flags that are set
-              **dict.fromkeys(("shl", "shr", "vptest"), "e")}
+SOME_FLAGS = {
+    **dict.fromkeys(("imul", "mul", "div", "shld", "shrd", "rol", "ror"), ""),  # the flags that are set
+    **dict.fromkeys(("shl", "shr", "vptest"), "e"),
+}
 BASES = "rdi", "rsi", "r9", "r10"
-SAMPLE = {"b": ["cl", "al", "dl"], "h": ["ah"], "w": ["ax", "cx", "dx"], "l": ["eax", "ecx", "ebx"],
-          "q": ["rax", "rcx", "rbx"], "x": ["xmm1", "xmm2", "xmm3"], "y": ["ymm1", "ymm2", "ymm3"],
-          "z": ["zmm1", "zmm2", "zmm31"]}
-NUMBERS = {"vpternlogq": 0x96, "vpalignr": 8}     # the only values that the table has
+SAMPLE = {
+    "b": ["cl", "al", "dl"],
+    "h": ["ah"],
+    "w": ["ax", "cx", "dx"],
+    "l": ["eax", "ecx", "ebx"],
+    "q": ["rax", "rcx", "rbx"],
+    "x": ["xmm1", "xmm2", "xmm3"],
+    "y": ["ymm1", "ymm2", "ymm3"],
+    "z": ["zmm1", "zmm2", "zmm31"],
+}
+NUMBERS = {"vpternlogq": 0x96, "vpalignr": 8}  # the only values that the table has
 # Branches, calls and the stack.
-SNIPPETS = [*([f"cmp %{other},%rax", f"j{name} 1f", "not %rax", "1: not %rcx"] for name in CONDITIONS
-              for other in ("rax", "rbx")),
-            ["jmp 1f", "not %rax", "1: not %rcx"], ["push %rax", "not %rax", "pop %rbx"], ["vzeroupper"], ["nop"],
-            ["call 1f", "jmp 2f", "1: not %rax", "ret", "2: not %rcx"], ["prefetcht0 (%rsp)"],
-            *([".byte " + ",".join(map(str, raw))] for raw in sorted(NOPS))]
+SNIPPETS = [
+    *(
+        [f"cmp %{other},%rax", f"j{name} 1f", "not %rax", "1: not %rcx"]
+        for name in CONDITIONS
+        for other in ("rax", "rbx")
+    ),
+    ["jmp 1f", "not %rax", "1: not %rcx"],
+    ["push %rax", "not %rax", "pop %rbx"],
+    ["vzeroupper"],
+    ["nop"],
+    ["call 1f", "jmp 2f", "1: not %rax", "ret", "2: not %rcx"],
+    ["prefetcht0 (%rsp)"],
+    *([".byte " + ",".join(map(str, raw))] for raw in sorted(NOPS)),
+]
 
 
 # ---- the instructions
+
 
 def asked(programs, each):
     """Maps text to form: each instruction of the programs, or one of each form; and one of each form of the table that
@@ -77,7 +105,8 @@ def form_of(x):
 
 
 def sample(mnemonic, form):
-    used, out = {}, []
+    used: dict[str, int] = {}
+    out: list = []
     for letter in form:
         if letter in SAMPLE:
             used[letter] = used.get(letter, -1) + 1
@@ -117,6 +146,7 @@ def operand_written(x, base, is_lea):
 
 
 # ---- the functions
+
 
 def function(number, lines):
     """Yields a function that loads all registers, runs the lines, and stores all registers and flags. A base register
@@ -168,30 +198,33 @@ def assembled(snippets, workdir, reader=Snippets):
 
 # ---- both runs
 
+
 def inputs(mnemonic, lines, rng):
     data = bytearray(rng.randbytes(SIZE))
     if rng.random() < 0.4:
         data = with_edges(data, rng)
-    data[COMPARED:COMPARED + 4] = rng.randrange(3).to_bytes(4, "little")
+    data[COMPARED : COMPARED + 4] = rng.randrange(3).to_bytes(4, "little")
     if rng.random() < 0.2:
         rax, rbx = (8 * LOADED.index(name) for name in ("rax", "rbx"))
-        data[rbx:rbx + 8] = data[rax:rax + 8]
-    if mnemonic == "div":     # a dividend of one word, and an odd divisor
+        data[rbx : rbx + 8] = data[rax : rax + 8]
+    if mnemonic == "div":  # a dividend of one word, and an odd divisor
         at, name = 8 * LOADED.index("rdx"), PARTS[lines[0].split("%")[1]][0]
-        data[at:at + 8] = bytes(8)
+        data[at : at + 8] = bytes(8)
         data[8 * LOADED.index(name)] |= 1
     return data
 
 
 def with_edges(data, rng):
     """Replaces most bytes by edge cases."""
-    old, edges, mask = (int.from_bytes(x, "little") for x in (
-        data, rng.randbytes(SIZE).translate(EDGES), rng.randbytes(SIZE).translate(MOSTLY)))
+    old, edges, mask = (
+        int.from_bytes(x, "little")
+        for x in (data, rng.randbytes(SIZE).translate(EDGES), rng.randbytes(SIZE).translate(MOSTLY))
+    )
     return bytearray((old & ~mask | edges & mask).to_bytes(SIZE, "little"))
 
 
 def word(data, at):
-    return int.from_bytes(data[at:at + 8], "little")
+    return int.from_bytes(data[at : at + 8], "little")
 
 
 def by_table(cpu, number, lines, data):
@@ -203,15 +236,15 @@ def by_table(cpu, number, lines, data):
     cpu.stack = Stack()
     cpu.registers["rsp"] = address(cpu.stack, ENTRY)
     lanes = struct.unpack_from(f"<{LANES * VECTORS_COUNT}Q", data, VECTORS)
-    cpu.vectors = [list(lanes[first:first + LANES]) for first in range(0, len(lanes), LANES)]
+    cpu.vectors = [list(lanes[first : first + LANES]) for first in range(0, len(lanes), LANES)]
     cpu.set_flags("sub", 32, word(data, COMPARED) & ones(32), 1, None)
     run_to(cpu, cpu.program.labels[f"b{number}"], cpu.program.labels[f"e{number}"])
     out = bytearray(data)
     for at in range(MEMORY, AFTER, 8):
-        out[at:at + 8] = state.load(at, 8).to_bytes(8, "little")
+        out[at : at + 8] = state.load(at, 8).to_bytes(8, "little")
     for k, name in enumerate(LOADED):
         if name not in bases:
-            out[AFTER + 8 * k:AFTER + 8 * k + 8] = cpu.registers[name].to_bytes(8, "little")
+            out[AFTER + 8 * k : AFTER + 8 * k + 8] = cpu.registers[name].to_bytes(8, "little")
     put_vectors(out, cpu.vectors)
     for k, name in enumerate(SOME_FLAGS.get(lines[0].split()[0], FLAGS)):
         out[FLAGS_AFTER + k] = cpu.condition(name)
@@ -233,9 +266,13 @@ def run_to(cpu, place, end):
 
 def own_bytes(programs):
     """Maps text to bytes, of the programs' instructions without memory operands, which the tests change."""
-    return {written(x.mnemonic, x.operands): program.object.body(program.heads[section])[at:x.end]
-            for program in programs for section, code in program.sections.items() for at, x in code.items()
-            if x.operands and not any(isinstance(y, Place) or y == Register("rsp") for y in x.operands)}
+    return {
+        written(x.mnemonic, x.operands): program.object.body(program.heads[section])[at : x.end]
+        for program in programs
+        for section, code in program.sections.items()
+        for at, x in code.items()
+        if x.operands and not any(isinstance(y, Place) or y == Register("rsp") for y in x.operands)
+    }
 
 
 def compare(texts, workdir, own=None, snippets=SNIPPETS, reader=Snippets):
@@ -249,7 +286,7 @@ def compare(texts, workdir, own=None, snippets=SNIPPETS, reader=Snippets):
     state = (ctypes.c_ubyte * SIZE).from_buffer(whole, first)
     for number, (lines, form) in enumerate(zip(snippets, forms)):
         section, at = program.labels[f"b{number}"]
-        raw = program.object.body(program.heads[section])[at:program.labels[f"e{number}"][1]]
+        raw = program.object.body(program.heads[section])[at : program.labels[f"e{number}"][1]]
         if len(lines) == 1 and raw != (own or {}).get(lines[0], raw):
             wrong.append(f"{lines[0]} has other bytes in a text than {raw.hex()}")
         if form not in (None, form_of(program.sections[section][at])):

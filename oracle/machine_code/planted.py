@@ -9,12 +9,26 @@ import unittest.mock
 
 from oracle.symbolic_terms import REFUSALS, TOP, NotShown, Request, WrongRule, definition, nodes, operations, variable
 
-from . import (any_updates, calls, coverage, every_length, exports, layouts, on_processor, one_shots, source_layouts,
-               streams, values, xxh3_states, xxh3_updates)
+from . import (
+    any_updates,
+    calls,
+    coverage,
+    every_length,
+    exports,
+    layouts,
+    on_processor,
+    one_shots,
+    source_layouts,
+    streams,
+    values,
+    xxh3_states,
+    xxh3_updates,
+)
 from .instructions import TABLE, V1, V2
 from .objects import Program
 from .processor import Processor
 from .sources import by_gnu
+from .wasm import layouts as record_layouts
 
 SOURCE = os.path.join(TOP, "c", "asm", f"{V2}.s")
 # A planted fault: its title, the change of the source, the test, and a pattern of the refusal's message.
@@ -22,6 +36,7 @@ Wrong = collections.namedtuple("Wrong", "what change ask message")
 
 
 # ---- changes of a source
+
 
 def field(at, register="%rdi"):
     """Returns the operand of a place in a state, whose address a register has."""
@@ -46,11 +61,22 @@ def in_loop(text):
     """Changes an accumulator in XXH64's loop over stripes in iterations at least 2 ^ 40 bytes after the start and
     before the end. The first iterations and the last one are correct."""
     name = "twox_plain.xxhash64.rounds.impl_long"
-    function = text[text.index(f"\n{name}:"):]
+    function = text[text.index(f"\n{name}:") :]
     head = re.search(r"^\.L\w+:\n", function, re.M)[0]
-    return with_lines(text, re.escape(head), "\tmov %rsi,-0x10(%rsp)\n",
-                      ("mov %rsi,%r8", "sub -0x10(%rsp),%r8", "shr $0x28,%r8", "mov %r9,%r10", "shr $0x28,%r10",
-                       "and %r10,%r8", "add %r8,%r12"))
+    return with_lines(
+        text,
+        re.escape(head),
+        "\tmov %rsi,-0x10(%rsp)\n",
+        (
+            "mov %rsi,%r8",
+            "sub -0x10(%rsp),%r8",
+            "shr $0x28,%r8",
+            "mov %r9,%r10",
+            "shr $0x28,%r10",
+            "and %r10,%r8",
+            "add %r8,%r12",
+        ),
+    )
 
 
 def hidden_register(text):
@@ -72,19 +98,28 @@ def ended(*lines):
 
 def function(name, *more):
     """Returns the lines of a function that only returns, with `more` directives before its name."""
-    return (f'.section .text.{name},"ax",@progbits', *more, f".type {name},@function", f"{name}:", "ret",
-            f".size {name},.-{name}")
+    return (
+        f'.section .text.{name},"ax",@progbits',
+        *more,
+        f".type {name},@function",
+        f"{name}:",
+        "ret",
+        f".size {name},.-{name}",
+    )
 
 
 # ---- tests
 
+
 def request(*args, **more):
     """Returns a test that compares a request and its twin with the definition."""
+
     def ask(cpu):
         entries, one = definition.program().run(), Request(*args, **more)
         for each in [one, *one.with_seed_0()]:
             side = one_shots if each.cuts is None else streams
             calls.expect(repr(each), side.of_text(cpu, each), each.of_definition(entries))
+
     return ask
 
 
@@ -100,7 +135,9 @@ def proving(proof_class, prove, *args):
 
 
 def of_every_length(algorithm, seed=None, case=0):
-    return proving(every_length.EveryLength, lambda proof: proof.show(every_length.cases(algorithm)[case], seed), algorithm)
+    return proving(
+        every_length.EveryLength, lambda proof: proof.show(every_length.cases(algorithm)[case], seed), algorithm
+    )
 
 
 def exported(cpu):
@@ -117,15 +154,23 @@ def whole_blocks(proof):
     proof.taken_of(*next(asked for asked in proof.all_taken() if asked[1][0] is xxh3_updates.TAKE_BLOCKS))
 
 
-far_case = of_every_length("3-64:seed", case=1)      # whole blocks have a separate function, from 31,744 bytes on
+far_case = of_every_length("3-64:seed", case=1)  # whole blocks have a separate function, from 31,744 bytes on
 any_blocks = proving(xxh3_states.Through, whole_blocks)
 any_update = proving(xxh3_states.OwnSecret, small_update)
 
 
 def adds_where(word, register):
     """Returns lines that add 1 to a register if rax equals `word`."""
-    return (f"movabs ${word:#x},%r10", "xor %r10,%rax", "mov %rax,%r10", "neg %r10", "or %r10,%rax", "shr $0x3f,%rax",
-            "xor $0x1,%eax", f"add %rax,{register}")
+    return (
+        f"movabs ${word:#x},%r10",
+        "xor %r10,%rax",
+        "mov %rax,%r10",
+        "neg %r10",
+        "or %r10,%rax",
+        "shr $0x3f,%rax",
+        "xor $0x1,%eax",
+        f"add %rax,{register}",
+    )
 
 
 def adds_to(place):
@@ -136,81 +181,193 @@ def adds_to(place):
 SEED_0 = begun("XXH3_64bits_withSeed", "test %rdx,%rdx", "jne 1f", "xor %eax,%eax", "ret", "1:")
 VERSION, WHOLE_STATE = "XXH_versionNumber", f"mov ${layouts.STATE.size:#x},%edx"
 FUNCTION = '.section .text.elsewhere,"ax",@progbits', ".type elsewhere,@function", "elsewhere:"
-END = ".size elsewhere,.-elsewhere",
-NEAR = "mov %rdi,%rax", "sub %rdx,%rax", "cmp $0x8,%rax", "jae 1f"      # tests if one address is just behind another
+END = (".size elsewhere,.-elsewhere",)
+NEAR = "mov %rdi,%rax", "sub %rdx,%rax", "cmp $0x8,%rax", "jae 1f"  # tests if one address is just behind another
 SAVED = "mov %rdi,-0x40(%rsp)", "mov %rsi,-0x48(%rsp)"
 TAKEN = "mov -0x40(%rsp),%rdi", "mov -0x48(%rsp),%rsi"
-FROM_MANY_BLOCKS = begun("twox_core.xxhash3.stripes.blocks.take_many_blocks", "mov %rcx,%rax", "shr $0x1e,%rax",
-                         *adds_to("(%rsi)"))
-LONGEST = Wrong("another value from 2 ^ 20 blocks on", FROM_MANY_BLOCKS, far_case, "turns == 31")     # takes longer than the rest
+FROM_MANY_BLOCKS = begun(
+    "twox_core.xxhash3.stripes.blocks.take_many_blocks", "mov %rcx,%rax", "shr $0x1e,%rax", *adds_to("(%rsi)")
+)
+LONGEST = Wrong(
+    "another value from 2 ^ 20 blocks on", FROM_MANY_BLOCKS, far_case, "turns == 31"
+)  # takes longer than the rest
 
 TEXTS = [
     Wrong("an accumulator that fails the step of the induction", in_loop, of_every_length("64"), "r12 is .* and not"),
     Wrong("another value of the seed 0, up to 240 bytes", SEED_0, request("3-64", "seed", 17), "== 0"),
     Wrong("another value of the seed 0, above", SEED_0, request("3-64", "seed", 300), "another value"),
     Wrong("another value of the seed 0, at every length", SEED_0, of_every_length("3-64:seed", 0), "== 0"),
-    Wrong("another value of one seed in 2 ^ 64", begun("XXH64", "mov %rdx,%rax", *adds_where(0x9e3779b97f4a7c15, "%rdx")),
-          request("64", "seed", 40), "another value"),
-    Wrong("another value where a word of the message is one in 2 ^ 64",
-          begun("XXH3_64bits_withSeed", "mov (%rdi),%rax", *adds_where(0x123456789abcdef, "%rdx")),
-          request("3-64", "seed", 16), "another value"),
+    Wrong(
+        "another value of one seed in 2 ^ 64",
+        begun("XXH64", "mov %rdx,%rax", *adds_where(0x9E3779B97F4A7C15, "%rdx")),
+        request("64", "seed", 40),
+        "another value",
+    ),
+    Wrong(
+        "another value where a word of the message is one in 2 ^ 64",
+        begun("XXH3_64bits_withSeed", "mov (%rdi),%rax", *adds_where(0x123456789ABCDEF, "%rdx")),
+        request("3-64", "seed", 16),
+        "another value",
+    ),
     Wrong("blocks that are taken wrongly from 2 ^ 20 on", FROM_MANY_BLOCKS, any_blocks, r"D \+ 1 == 1"),
-    Wrong("a stream's accumulator that is another one from 2 ^ 40 bytes on",
-          begun("twox_c.xxh3_state.Xxh3State.update", f"mov {field(layouts.STATE.total_bytes)},%rax", "shr $0x28,%rax",
-                *adds_to("(%rdi)")),
-          any_update, "the state at 0 is"),
-    Wrong("the upper half of a hash that is lost", begun("XXH128_canonicalFromHash", "mov %esi,%esi"),
-          calls.canonical_forms, "another value"),
+    Wrong(
+        "a stream's accumulator that is another one from 2 ^ 40 bytes on",
+        begun(
+            "twox_c.xxh3_state.Xxh3State.update",
+            f"mov {field(layouts.STATE.total_bytes)},%rax",
+            "shr $0x28,%rax",
+            *adds_to("(%rdi)"),
+        ),
+        any_update,
+        "the state at 0 is",
+    ),
+    Wrong(
+        "the upper half of a hash that is lost",
+        begun("XXH128_canonicalFromHash", "mov %esi,%esi"),
+        calls.canonical_forms,
+        "another value",
+    ),
     Wrong("bytes that objdump leaves out", begun(VERSION, "nop", ".zero 16"), calls.version, "the instruction add bm"),
-    Wrong("a jump into an instruction", begun(VERSION, "jmp 1f+1", "1: mov $0x1234,%eax"), calls.version,
-          "no instruction at"),
+    Wrong(
+        "a jump into an instruction",
+        begun(VERSION, "jmp 1f+1", "1: mov $0x1234,%eax"),
+        calls.version,
+        "no instruction at",
+    ),
     Wrong("a jump to an address in memory", begun(VERSION, "jmp *1f(%rip)", "1:"), calls.version, "no one place"),
-    Wrong("a function that goes on behind its end", begun(VERSION, "jmp 1f", *FUNCTION, "1: nop", *END,
-                                                          ".section .text.XXH_versionNumber"), calls.version,
-          "no instruction at"),
-    Wrong("another place of a mergeable constant", substituted(r"(\.L\w+)\(%rip\)", r"\1+16(%rip)"), calls.version,
-          "a linker may move"),
-    Wrong("two sections of one name", ended('.section .text.XXH32,"ax",@progbits,unique,7', "ret"), calls.version,
-          "two sections"),
-    Wrong("an address in the constants", ended('.section .rodata.more,"a",@progbits', ".quad XXH32"), calls.version,
-          "the section .rela.rodata.more"),
+    Wrong(
+        "a function that goes on behind its end",
+        begun(VERSION, "jmp 1f", *FUNCTION, "1: nop", *END, ".section .text.XXH_versionNumber"),
+        calls.version,
+        "no instruction at",
+    ),
+    Wrong(
+        "another place of a mergeable constant",
+        substituted(r"(\.L\w+)\(%rip\)", r"\1+16(%rip)"),
+        calls.version,
+        "a linker may move",
+    ),
+    Wrong(
+        "two sections of one name",
+        ended('.section .text.XXH32,"ax",@progbits,unique,7', "ret"),
+        calls.version,
+        "two sections",
+    ),
+    Wrong(
+        "an address in the constants",
+        ended('.section .rodata.more,"a",@progbits', ".quad XXH32"),
+        calls.version,
+        "the section .rela.rodata.more",
+    ),
     Wrong("a section that is written to", ended(".data", ".quad 1"), calls.version, "the section .data"),
-    Wrong("a call that another library may answer", begun("XXH128", "jmp XXH3_128bits_withSeed@PLT"),
-          calls.version, "another library"),
+    Wrong(
+        "a call that another library may answer",
+        begun("XXH128", "jmp XXH3_128bits_withSeed@PLT"),
+        calls.version,
+        "another library",
+    ),
     Wrong("what the caller left in a register", hidden_register, request("64", "seed", 5, cuts=[2]), "another value"),
-    Wrong("a load that is done where a condition doesn't hold", begun(VERSION, "xor %eax,%eax", "cmovne (%rax),%rax"),
-          calls.version, "as an address"),
-    Wrong("a register of 512 bits", begun(VERSION, "vpxorq %zmm0,%zmm0,%zmm0"), calls.version,
-          "the instruction vpxorq"),
+    Wrong(
+        "a load that is done where a condition doesn't hold",
+        begun(VERSION, "xor %eax,%eax", "cmovne (%rax),%rax"),
+        calls.version,
+        "as an address",
+    ),
+    Wrong(
+        "a register of 512 bits", begun(VERSION, "vpxorq %zmm0,%zmm0,%zmm0"), calls.version, "the instruction vpxorq"
+    ),
     Wrong("an instruction of another set", begun(VERSION, "rorx $0x1,%rax,%rax"), calls.version, "hasn't here"),
-    Wrong("the red zone over a call", begun("XXH3_copyState", *SAVED, "sub $0x8,%rsp", "mov $0x10,%edx",
-                                            "call memmove@PLT", "add $0x8,%rsp", *TAKEN), calls.copies,
-          "byte .* of stack"),
-    Wrong("a call with the stack at no multiple of 16", begun("XXH3_copyState", WHOLE_STATE, "call memmove@PLT",
-                                                              "ret"), calls.copies, "no multiple of 16"),
-    Wrong("a copy of bytes onto themselves", begun("XXH3_copyState", "push %rdi", "push %rsi", "mov %rdi,%rsi",
-                                                   WHOLE_STATE, "push %rax", "call memcpy@PLT", "pop %rax",
-                                                   "pop %rsi", "pop %rdi"), calls.copies, "onto themselves"),
-    Wrong("a store above the stack pointer of the caller", begun(VERSION, "movq $0x0,0x8(%rsp)"), calls.version,
-          "the caller's frame"),
+    Wrong(
+        "the red zone over a call",
+        begun("XXH3_copyState", *SAVED, "sub $0x8,%rsp", "mov $0x10,%edx", "call memmove@PLT", "add $0x8,%rsp", *TAKEN),
+        calls.copies,
+        "byte .* of stack",
+    ),
+    Wrong(
+        "a call with the stack at no multiple of 16",
+        begun("XXH3_copyState", WHOLE_STATE, "call memmove@PLT", "ret"),
+        calls.copies,
+        "no multiple of 16",
+    ),
+    Wrong(
+        "a copy of bytes onto themselves",
+        begun(
+            "XXH3_copyState",
+            "push %rdi",
+            "push %rsi",
+            "mov %rdi,%rsi",
+            WHOLE_STATE,
+            "push %rax",
+            "call memcpy@PLT",
+            "pop %rax",
+            "pop %rsi",
+            "pop %rdi",
+        ),
+        calls.copies,
+        "onto themselves",
+    ),
+    Wrong(
+        "a store above the stack pointer of the caller",
+        begun(VERSION, "movq $0x0,0x8(%rsp)"),
+        calls.version,
+        "the caller's frame",
+    ),
     Wrong("a register that the caller wants back", begun(VERSION, "xor %ebx,%ebx"), calls.version, "rbx isn't"),
-    Wrong("a register that is kept where a signal may write to", begun(
-        VERSION, "sub $0x108,%rsp", "mov %rbx,(%rsp)", "add $0x108,%rsp", "xor %ebx,%ebx", "sub $0x108,%rsp",
-        "mov (%rsp),%rbx", "add $0x108,%rsp"), calls.version, "byte .* of stack"),
-    Wrong("a branch on a byte of the message", begun("XXH32", "cmpq $0x0,(%rdi)", "jne 1f", "1:"),
-          request("32", "seed", 40), "== 0"),
+    Wrong(
+        "a register that is kept where a signal may write to",
+        begun(
+            VERSION,
+            "sub $0x108,%rsp",
+            "mov %rbx,(%rsp)",
+            "add $0x108,%rsp",
+            "xor %ebx,%ebx",
+            "sub $0x108,%rsp",
+            "mov (%rsp),%rbx",
+            "add $0x108,%rsp",
+        ),
+        calls.version,
+        "byte .* of stack",
+    ),
+    Wrong(
+        "a branch on a byte of the message",
+        begun("XXH32", "cmpq $0x0,(%rdi)", "jne 1f", "1:"),
+        request("32", "seed", 40),
+        "== 0",
+    ),
     Wrong("a read behind the message", begun("XXH32", "mov 0x1(%rdi),%rax"), request("32", "seed", 8), "which has 8"),
-    Wrong("a value by where the secret lies beside the message", begun("XXH3_64bits_withSecret", *NEAR, "xor %eax,%eax", "ret", "1:"),
-          request("3-64", "secret", 40, 136), "< 8"),
-    Wrong("another value where the secret is the message", begun("XXH3_64bits_withSecret", "cmp %rdi,%rdx", "jne 1f", "xor %eax,%eax",
-                                                                 "ret", "1:"), calls.in_one_place, "from 0, secret of"),
-    Wrong("an order by where two hashes lie", begun("XXH128_cmp", "mov %rsi,%rdx", *NEAR, "mov $0x1,%eax", "ret", "1:"),
-          calls.compare, "< 8"),
-    Wrong("another order of two hashes in one place", begun("XXH128_cmp", "mov %rsi,%rdx", *NEAR, "mov $0x1,%eax", "ret", "1:"),
-          calls.compare_in_one_place, "in one place: another value"),
-    Wrong("a comparison that writes to what it compares", begun("XXH128_cmp", "mov (%rdi),%rax", "mov %rax,(%rdi)"),
-          calls.compare, "a store to first"),
-    Wrong("an export that no task shows", ended(*function("XXH_more", ".globl XXH_more")), exported, "no task shows it"),
+    Wrong(
+        "a value by where the secret lies beside the message",
+        begun("XXH3_64bits_withSecret", *NEAR, "xor %eax,%eax", "ret", "1:"),
+        request("3-64", "secret", 40, 136),
+        "< 8",
+    ),
+    Wrong(
+        "another value where the secret is the message",
+        begun("XXH3_64bits_withSecret", "cmp %rdi,%rdx", "jne 1f", "xor %eax,%eax", "ret", "1:"),
+        calls.in_one_place,
+        "from 0, secret of",
+    ),
+    Wrong(
+        "an order by where two hashes lie",
+        begun("XXH128_cmp", "mov %rsi,%rdx", *NEAR, "mov $0x1,%eax", "ret", "1:"),
+        calls.compare,
+        "< 8",
+    ),
+    Wrong(
+        "another order of two hashes in one place",
+        begun("XXH128_cmp", "mov %rsi,%rdx", *NEAR, "mov $0x1,%eax", "ret", "1:"),
+        calls.compare_in_one_place,
+        "in one place: another value",
+    ),
+    Wrong(
+        "a comparison that writes to what it compares",
+        begun("XXH128_cmp", "mov (%rdi),%rax", "mov %rax,(%rdi)"),
+        calls.compare,
+        "a store to first",
+    ),
+    Wrong(
+        "an export that no task shows", ended(*function("XXH_more", ".globl XXH_more")), exported, "no task shows it"
+    ),
 ]
 
 
@@ -222,7 +379,14 @@ class Asked:
     """Tests a planted fault in a source, without checking the grammar; `read` makes a processor of an object."""
 
     def __init__(self, wrong, source, read, arch=V1):
-        self.title, self.message, self.wrong, self.source, self.read, self.arch = wrong.what, wrong.message, wrong, source, read, arch
+        self.title, self.message, self.wrong, self.source, self.read, self.arch = (
+            wrong.what,
+            wrong.message,
+            wrong,
+            source,
+            read,
+            arch,
+        )
 
     def ask(self):
         """Applies the change and runs the test. Raises the refusal, or NotShown if the change changes nothing."""
@@ -258,6 +422,7 @@ def refused(asked):
 
 # ---- planted faults in the check itself
 
+
 def lacks_a_case(workdir):
     """Checks that a missing case is detected: of every length, of updates, and of XXH3's streams."""
     cases = every_length.cases("3-64:seed")
@@ -278,8 +443,10 @@ def processor(workdir):
 
 def has_a_wrong_sum(_):
     """Plants a polynomial's word that is greater by one."""
+
     def one_more(x, width):
         return operations.add_at(width, (1, word(x, width)), (1, 1))
+
     word = values.as_word
     with unittest.mock.patch.object(values, "as_word", one_more):
         return raises(WrongRule, lambda: values.low(variable("t"), 32))
@@ -309,7 +476,14 @@ def raises(exception, call):
 
 def has_a_wrong_layout(_):
     """Plants another offset of a field, in each layout."""
-    known = [layouts.STATE, layouts.CORE, layouts.RECORD, layouts.TAKEN, *layouts.PLAIN.values(), *layouts.PLAIN_RECORDS.values()]
+    known = [
+        layouts.STATE,
+        layouts.CORE,
+        record_layouts.RECORD,
+        layouts.TAKEN,
+        *layouts.PLAIN.values(),
+        *record_layouts.PLAIN_RECORDS.values(),
+    ]
     for layout in known:
         name = next(name for name in ("accumulator", "marked") if hasattr(layout, name))
         with unittest.mock.patch.object(layout, name, getattr(layout, name) + 8):

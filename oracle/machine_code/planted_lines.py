@@ -8,8 +8,10 @@ from .grammar import expect_grammar
 from .planted import Asked, Wrong
 from .sources import by_gnu, expect_alike
 
-C, CARGO, ARM = (os.path.join(TOP, *path) for path in (("c", "asm", "x86-64-v2.s"), ("rust", "asm", "x86-64.s"),
-                                                         ("c", "asm", "aarch64.s")))
+C, CARGO, ARM = (
+    os.path.join(TOP, *path)
+    for path in (("c", "asm", "x86-64-v2.s"), ("rust", "asm", "x86-64.s"), ("c", "asm", "aarch64.s"))
+)
 BODY = r"(?<=\t\.cfi_startproc\n)"
 GUARD = r"\t\.ifndef .*\n"
 
@@ -37,8 +39,10 @@ IN_X86 = [
     ("a comment behind an instruction", put("xor %edx,%edx # nothing")),
     ("a comment over lines", put("/* nothing", "xor %edx,%edx", "*/")),
     ("a line by which compilers name a file", put('# 1 "elsewhere.s"', behind="")),
-    ("another section inside of a function", put(".text", "xor %edx,%edx",
-                                                 ".section .text.twox_plain.xxhash32.rounds.products_of_block")),
+    (
+        "another section inside of a function",
+        put(".text", "xor %edx,%edx", ".section .text.twox_plain.xxhash32.rounds.products_of_block"),
+    ),
     ("another section that is kept in mind", put('.pushsection .init,"ax"', "xor %edx,%edx", ".popsection")),
     ("a part of a section", put(".subsection 1", "xor %edx,%edx", ".previous")),
     ("zeros as instructions", put(".zero 8")),
@@ -55,28 +59,48 @@ IN_X86 = [
     ("another version of a name", put(".symver XXH32,XXH32@@OLD")),
     ("who is called where a stack is unwound", put(".cfi_personality 0x1b,memcpy")),
     ("a frame in bytes", put(".cfi_escape 0x16,6,2,0x76,0x0")),
-    ("the end of the text within it", lambda text: text.replace("\t.section .note.GNU-stack", "\t.end\n\t.section .note.GNU-stack")),
+    (
+        "the end of the text within it",
+        lambda text: text.replace("\t.section .note.GNU-stack", "\t.end\n\t.section .note.GNU-stack"),
+    ),
     ("a last line that doesn't end", lambda text: text[:-1]),
     ("a text without a comment", put(place=r"\A/\*.*\n")),
-    ("a section that is begun twice", lambda text: text.replace(
-        "\t.section .note.GNU", '\t.section .text.XXH32,"ax",@progbits\n\t.p2align 0\n\t.section .note.GNU')),
+    (
+        "a section that is begun twice",
+        lambda text: text.replace(
+            "\t.section .note.GNU", '\t.section .text.XXH32,"ax",@progbits\n\t.p2align 0\n\t.section .note.GNU'
+        ),
+    ),
     ("a function that isn't aligned", put(place=r"\t\.p2align \d\n(?=\t\.globl)")),
     ("code behind the end", lambda text: text + "\tnop\n"),
     ("an instruction behind a name", lambda text: text.replace("\nXXH32:\n", "\nXXH32: nop\n")),
-    ("a function without frames", lambda text: re.sub(
-        r"(\nXXH_versionNumber:\n)\t\.cfi_startproc\n((?:\t[^.].*\n)*)\t\.cfi_endproc\n", r"\1\2", text)),
+    (
+        "a function without frames",
+        lambda text: re.sub(
+            r"(\nXXH_versionNumber:\n)\t\.cfi_startproc\n((?:\t[^.].*\n)*)\t\.cfi_endproc\n", r"\1\2", text
+        ),
+    ),
     ("a byte of more bits", put(".byte 300")),
     ("a byte of more bits among constants", put(".byte 300", place=r"(?<=\.L96_0:\n)")),
-    ("constants that aren't there", lambda text: text.replace(
-        "\t.section .note.GNU", '\t.section .rodata.more,"a",@progbits\n\t.p2align 4\n\t.section .note.GNU')),
+    (
+        "constants that aren't there",
+        lambda text: text.replace(
+            "\t.section .note.GNU", '\t.section .rodata.more,"a",@progbits\n\t.p2align 4\n\t.section .note.GNU'
+        ),
+    ),
     ("a function of another size", lambda text: text.replace(".size XXH32,.-XXH32", ".size XXH32,1")),
-    ("a function under another section's name", put('.section .text.elsewhere,"ax",@progbits',
-                                                    place=r"\t\.section \.text\.XXH_versionNumber.*\n")),
+    (
+        "a function under another section's name",
+        put('.section .text.elsewhere,"ax",@progbits', place=r"\t\.section \.text\.XXH_versionNumber.*\n"),
+    ),
 ]
 IN_CARGO = [
     ("a guard that GNU as alone knows", put(".ifndef .gasversion.", place=GUARD)),
     ("a guard by a name that the text hasn't", put(".ifndef memcpy", place=GUARD)),
-    ("a guard by a function that isn't weak", put(".ifndef twox_plain.xxhash32.rounds.products_of_block.i5", place=GUARD)),
+    (
+        "a guard by a function that isn't weak",
+        put(".ifndef twox_plain.xxhash32.rounds.products_of_block.i5", place=GUARD),
+    ),
     ("a second guard", put(".ifndef twox_rust_7_more", ".endif", place=r"(?<=\n)(?=\t\.section)")),
     ("a weak name that isn't hidden", put(place=r"\t\.hidden .*\n")),
 ]
@@ -90,9 +114,11 @@ IN_ARM = [
     ("a comment behind an instruction", put("mov x2, #0 // nothing")),
 ]
 # Lines that GNU as assembles otherwise than clang and rustc.
-OTHERWISE = [("what other assemblers refuse", put(".nolist", ".list")),
-             ("code that GNU as leaves out", put(".ifndef .gasversion.", "nop", ".endif")),
-             ("code that GNU as alone has", put(".ifdef .gasversion.", "nop", ".endif"))]
+OTHERWISE = [
+    ("what other assemblers refuse", put(".nolist", ".list")),
+    ("code that GNU as leaves out", put(".ifndef .gasversion.", "nop", ".endif")),
+    ("code that GNU as alone has", put(".ifdef .gasversion.", "nop", ".endif")),
+]
 NOT_ASSEMBLED = {"an instruction behind a sign of another system", "a way by the table of the linker"}
 
 
@@ -113,7 +139,12 @@ class AskedLines(Asked):
             expect_grammar(path, self.arch)
 
 
-X86_ASKED = [*(AskedLines(C, "x86-64", *wrong) for wrong in IN_X86), *(AskedLines(CARGO, "x86-64", *wrong) for wrong in IN_CARGO)]
+X86_ASKED = [
+    *(AskedLines(C, "x86-64", *wrong) for wrong in IN_X86),
+    *(AskedLines(CARGO, "x86-64", *wrong) for wrong in IN_CARGO),
+]
 ARM_ASKED = [AskedLines(ARM, "aarch64", *wrong) for wrong in IN_ARM]
-X86_ALIKE, ARM_ALIKE = ([AskedLines(source, arch, *wrong, True) for source in sources for wrong in OTHERWISE]
-                        for arch, sources in (("x86-64", (C, CARGO)), ("aarch64", (ARM,))))
+X86_ALIKE, ARM_ALIKE = (
+    [AskedLines(source, arch, *wrong, True) for source in sources for wrong in OTHERWISE]
+    for arch, sources in (("x86-64", (C, CARGO)), ("aarch64", (ARM,)))
+)

@@ -2,6 +2,7 @@
 with operands that it must refuse."""
 import collections
 import types
+from typing import Any
 
 from oracle.symbolic_terms import Induction, plus, symbol, variable
 
@@ -79,32 +80,54 @@ def condition(name, now=None, carry=None):
 
 
 def arm_operands(op, a):
-    processor.Processor.signed_operands(types.SimpleNamespace(flags=(op, 64, a, 2, 3)))
+    cpu: Any = types.SimpleNamespace(flags=(op, 64, a, 2, 3))
+    processor.Processor.signed_operands(cpu)
 
 
-ASKED = [Direct(*one) for one in (
-    ("a place in a sum of two addresses", "as an address", Address(((MEMORY, 1), (OTHER, 1)), 0).place),
-    ("a number as an address", "as an address", lambda: values.place_of(5)),
-    ("an address plus a term", "depends on symbols", lambda: values.sum_of(PLACE, TERM, 1)),
-    ("a mask with a gap over an address", "the bits 0x5", lambda: values.low_bits(PLACE, 5)),
-    ("a mask with a gap over united numbers", "bits of numbers", Either([variable("n")], 5).is_zero),
-    ("united numbers in a product", "of united bits", lambda: values.masked("mul", Either([variable("n")], 7), 3)),
-    ("bits of an address", "bits of", lambda: values.bits(PLACE, 0, 8)),
-    ("a product with an address", "the product of", lambda: values.high_and_low(PLACE, 3)),
-    ("an address beside other bits", "beside other bits", lambda: values.joined((PLACE, 64), (3, 8))),
-    ("an unknown condition", "the condition po", lambda: condition("po")),
-    ("a signed comparison without a comparison", "of another result", lambda: condition("l", Flags("shift", 64, 1, 2, 3))),
-    ("a signed comparison of terms", "of symbols", lambda: condition("l", Flags("sub", 64, TERM, 2, 3))),
-    ("on ARM, a signed comparison without a comparison", "of another result", lambda: arm_operands("add", 1)),
-    ("on ARM, a signed comparison of terms", "of symbols", lambda: arm_operands("sub", TERM)),
-    ("a carry after a shift", "a carry that isn't set", lambda: condition("b", carry=Flags("shift", 64, 1, 2, 3))),
-    ("a carry of terms", "carry of a sum", lambda: condition("b", carry=Flags("add", 64, TERM, 2, 3))),
-    ("a test for 0 without flags", "flags that aren't set", lambda: condition("e")),
-    ("a one-shot with a seed of the cargo crate", "no export hashes", lambda: cargo.ForCargo.one_shot(None, "3-64", "seed")),
-    ("a loop that changes another cell later", "kept is 8 and not 7", lambda: Counter().show()),
-    ("a loop that is entered again", "isn't left",
-     lambda: instance_of(induction.Loops, stop=None, running={("section", 3): 5}).pass_by(None, ("section", 3))),
-    ("a loop that stores to a run", "stores to a run",
-     lambda: instance_of(induction.Proof, runs={MEMORY: []}, name="a loop").compare(0)),
-    ("a call that passes something else", "a call of f: the piece", lambda: instance_of(stripes.Summary, name="f").expect("the piece", False)),
-)]
+ASKED = [
+    Direct(*one)
+    for one in (
+        ("a place in a sum of two addresses", "as an address", Address(((MEMORY, 1), (OTHER, 1)), 0).place),
+        ("a number as an address", "as an address", lambda: values.place_of(5)),
+        ("an address plus a term", "depends on symbols", lambda: values.sum_of(PLACE, TERM, 1)),
+        ("a mask with a gap over an address", "the bits 0x5", lambda: values.low_bits(PLACE, 5)),
+        ("a mask with a gap over united numbers", "bits of numbers", Either([variable("n")], 5).is_zero),
+        ("united numbers in a product", "of united bits", lambda: values.masked("mul", Either([variable("n")], 7), 3)),
+        ("bits of an address", "bits of", lambda: values.bits(PLACE, 0, 8)),
+        ("a product with an address", "the product of", lambda: values.high_and_low(PLACE, 3)),
+        ("an address beside other bits", "beside other bits", lambda: values.joined((PLACE, 64), (3, 8))),
+        ("an unknown condition", "the condition po", lambda: condition("po")),
+        (
+            "a signed comparison without a comparison",
+            "of another result",
+            lambda: condition("l", Flags("shift", 64, 1, 2, 3)),
+        ),
+        ("a signed comparison of terms", "of symbols", lambda: condition("l", Flags("sub", 64, TERM, 2, 3))),
+        ("on ARM, a signed comparison without a comparison", "of another result", lambda: arm_operands("add", 1)),
+        ("on ARM, a signed comparison of terms", "of symbols", lambda: arm_operands("sub", TERM)),
+        ("a carry after a shift", "a carry that isn't set", lambda: condition("b", carry=Flags("shift", 64, 1, 2, 3))),
+        ("a carry of terms", "carry of a sum", lambda: condition("b", carry=Flags("add", 64, TERM, 2, 3))),
+        ("a test for 0 without flags", "flags that aren't set", lambda: condition("e")),
+        (
+            "a one-shot with a seed of the cargo crate",
+            "no export hashes",
+            lambda: cargo.ForCargo.one_shot(None, "3-64", "seed"),
+        ),
+        ("a loop that changes another cell later", "kept is 8 and not 7", lambda: Counter().show()),
+        (
+            "a loop that is entered again",
+            "isn't left",
+            lambda: instance_of(induction.Loops, stop=None, running={("section", 3): 5}).pass_by(None, ("section", 3)),
+        ),
+        (
+            "a loop that stores to a run",
+            "stores to a run",
+            lambda: instance_of(induction.Proof, runs={MEMORY: []}, name="a loop").compare(0),
+        ),
+        (
+            "a call that passes something else",
+            "a call of f: the piece",
+            lambda: instance_of(stripes.Summary, name="f").expect("the piece", False),
+        ),
+    )
+]

@@ -5,6 +5,7 @@ at the start is a fresh symbol for each call: registers without an argument, and
 The flags are unset. Errors are: an address outside of the passed objects, a load of a byte that was never stored, a
 store to read-only memory, a branch on a symbol, and a form of an instruction that the table lacks."""
 import functools
+from typing import Any, Callable
 
 from oracle.symbolic_terms import Unsupported, is_natural, is_number, is_same_number, minus, ones
 
@@ -30,13 +31,17 @@ class Runner(Names):
     instructions; `limit` is the maximum per call. `replaced` maps a function's place to a Python function that runs
     instead."""
 
-    library = ForC                # calls the exports
-    TOGETHER = 1,                 # possible numbers of XXH32's accumulators in a cell
+    library: Any = ForC           # calls the exports
+    registers: dict
+    stack: Stack
+    step: Callable
+    STACK_POINTER: str
+    TOGETHER: tuple[int, ...] = 1,        # possible numbers of XXH32's accumulators in a cell
     LIMIT_OF_CASE = 30_000        # instructions of a case: beyond, a loop runs that the induction should cover
 
     def __init__(self, program):
         self.program = program
-        self.constants = {key: Constants(key, *x) for key, x in program.constants.items()}
+        self.constants: dict = {key: Constants(key, *x) for key, x in program.constants.items()}
         self.not_zero, self.loops, self.live, self.replaced = [], None, [], {}
         self.used, self.limit, self.count = set(), NO_LIMIT, 0
 
@@ -197,7 +202,7 @@ class Processor(Runner):
             out = arithmetic("add", WORD, out, index)
         return out
 
-    def place(self, operand, instruction, alignment=1):
+    def place(self, operand, instruction, alignment=1) -> tuple[Any, Any]:
         """Returns the object and the offset of a memory operand. Checks the alignment."""
         memory, at = place_of(self.effective(operand, instruction))
         if memory is self.stack and not (isinstance(at, int) and at >= self.registers["rsp"].place()[1] - RED):

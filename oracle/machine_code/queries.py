@@ -7,31 +7,138 @@ cases of updates of any lengths and of one-shots of every length."""
 import collections
 import functools
 import random
+from typing import Optional
 
 from oracle.reasons import CRASH
 from oracle.symbolic_terms import REFUSALS, NotShown, Request, WrongRule, is_same, nodes
-from oracle.symbolic_terms.mutation import definition_at
+from oracle.symbolic_terms.mutation import definition_at, mark, release
 
-from . import any_secret, any_updates, calls, every_length, layouts, long_seeds, one_shots, streams, xxh3_states, xxh3_updates
+from . import (
+    any_secret,
+    any_updates,
+    calls,
+    every_length,
+    layouts,
+    long_seeds,
+    one_shots,
+    streams,
+    xxh3_states,
+    xxh3_updates,
+)
 from .memory import Numbers
 
 ANOTHER_VALUE, ANOTHER_TERM = "another value", "another term"
-CASES = 8                         # cases of an induction that are tried for a change
-EDGES = [0, 1, 2, 3, 4, 7, 8, 9, 15, 16, 17, 31, 32, 33, 64, 65, 96, 97, 128, 129, 144, 145, 240, 241, 256, 257, 320,
-         640, 1025, 1088]
-ONE_SHOTS = [*range(34), 36, 40, 45, 52, 63, 70, 80, 112, 113, 127, 130, 160, 177, 192, 208, 224, 255, 300, 319, 321,
-             384, 447, 512, 513, 576, 700, 1024, 1400, 2049]
-STREAMS = [(5, 2), (16, 7), (33, 1), (40, 20, 39), (64, 32), (70, 33, 64), (100, 3, 99), (200, 31, 160), (240, 239),
-           (241, 240), (257, 256), (300, 64, 128, 192), (320, 129, 256), (513, 512), (600, 512, 599), (700, 1, 520),
-           (1025, 512, 1024), (1100, 64), (1500, 600), (1500, 40, 1100), (2200, 513, 1500), (2600, 1, 513, 2561)]
-BY_SECRETS = [(300, 137), (700, 143), (900, 192), (700, 195), (1100, 195), (1025, 192), (1300, 200), (2000, 256),
-              (600, 1000), (1100, 144)]
+CASES = 8  # cases of an induction that are tried for a change
+EDGES = [
+    0,
+    1,
+    2,
+    3,
+    4,
+    7,
+    8,
+    9,
+    15,
+    16,
+    17,
+    31,
+    32,
+    33,
+    64,
+    65,
+    96,
+    97,
+    128,
+    129,
+    144,
+    145,
+    240,
+    241,
+    256,
+    257,
+    320,
+    640,
+    1025,
+    1088,
+]
+ONE_SHOTS = [
+    *range(34),
+    36,
+    40,
+    45,
+    52,
+    63,
+    70,
+    80,
+    112,
+    113,
+    127,
+    130,
+    160,
+    177,
+    192,
+    208,
+    224,
+    255,
+    300,
+    319,
+    321,
+    384,
+    447,
+    512,
+    513,
+    576,
+    700,
+    1024,
+    1400,
+    2049,
+]
+STREAMS = [
+    (5, 2),
+    (16, 7),
+    (33, 1),
+    (40, 20, 39),
+    (64, 32),
+    (70, 33, 64),
+    (100, 3, 99),
+    (200, 31, 160),
+    (240, 239),
+    (241, 240),
+    (257, 256),
+    (300, 64, 128, 192),
+    (320, 129, 256),
+    (513, 512),
+    (600, 512, 599),
+    (700, 1, 520),
+    (1025, 512, 1024),
+    (1100, 64),
+    (1500, 600),
+    (1500, 40, 1100),
+    (2200, 513, 1500),
+    (2600, 1, 513, 2561),
+]
+BY_SECRETS = [
+    (300, 137),
+    (700, 143),
+    (900, 192),
+    (700, 195),
+    (1100, 195),
+    (1025, 192),
+    (1300, 200),
+    (2000, 256),
+    (600, 1000),
+    (1100, 144),
+]
 LEFT_OUT = ("3-64", "both", 136), ("3-128", "secret", 136), ("3-64", "seed", None), ("3-128", "default", None)
 # With --all, for XXH3: lengths with separate loops, and long chunks from each position in a block.
-FAR = [("3-64", "default", None, 31_744), ("3-64", "secret", 136, 31_800), ("3-128", "secret", 192, 31_744),
-       ("3-128", "seed", None, 32_700)]
+FAR = [
+    ("3-64", "default", None, 31_744),
+    ("3-64", "secret", 136, 31_800),
+    ("3-128", "secret", 192, 31_744),
+    ("3-128", "seed", None, 32_700),
+]
 LONG_STREAMS = [(2700 + 131 * k, 600 + 64 * k) for k in range(16)]
-OF_BLOCKS = 3146, 600             # bytes of a stream whose second chunk has two whole blocks and ends with the second
+OF_BLOCKS = 3146, 600  # bytes of a stream whose second chunk has two whole blocks and ends with the second
 # Bytes from which on a request takes longer than an induction. No requests near to it are generated.
 LONG = 10_000
 # Further requests, for changes still undetected: each short length, and each number of stripes of two blocks.
@@ -41,15 +148,23 @@ OTHER_SECRETS = [(2200, 195), (3300, 193), (5000, 140), (16_000, 184), (32_000, 
 
 # ---- requests
 
+
 def requests(is_all):
     """Yields requests with lengths on both sides of each edge; without `is_all` fewer lengths and functions."""
-    algorithms = [("32", "seed", None), ("64", "seed", None)]
-    algorithms += [(name, variant, 136 if variant in ("secret", "both") else None) for name in ("3-64", "3-128")
-                   for variant in one_shots.WAYS]
-    for hash_name, variant, secret in algorithms if is_all else [variant for variant in algorithms if variant not in LEFT_OUT]:
+    algorithms: list[tuple[str, str, Optional[int]]] = [("32", "seed", None), ("64", "seed", None)]
+    algorithms += [
+        (name, variant, 136 if variant in ("secret", "both") else None)
+        for name in ("3-64", "3-128")
+        for variant in one_shots.WAYS
+    ]
+    for hash_name, variant, secret in (
+        algorithms if is_all else [variant for variant in algorithms if variant not in LEFT_OUT]
+    ):
         for n in sorted({*EDGES, *ONE_SHOTS}) if is_all else EDGES[::2]:
             yield Request(hash_name, variant, n, secret)
-        for n, *cuts in [*((n,) for n in EDGES), *STREAMS] if is_all else [*((n,) for n in EDGES[1:-6:4]), *STREAMS[::3]]:
+        for n, *cuts in (
+            [*((n,) for n in EDGES), *STREAMS] if is_all else [*((n,) for n in EDGES[1:-6:4]), *STREAMS[::3]]
+        ):
             yield Request(hash_name, variant, n, secret, cuts=cuts)
     for hash_name in ("3-64", "3-128"):
         for n, secret in BY_SECRETS if is_all else BY_SECRETS[::3]:
@@ -86,9 +201,10 @@ def in_numbers(request, is_extreme):
 
 # ---- queries
 
+
 def noticed_by(ask):
     """Returns the detection's name or None. Drops the terms that `ask` makes."""
-    known = nodes.mark()
+    known = mark()
     try:
         return ask()
     except (*REFUSALS, WrongRule) as error:
@@ -96,11 +212,12 @@ def noticed_by(ask):
     except Exception as error:
         return f"{CRASH}: {error!r}"
     finally:
-        nodes.release(known)
+        release(known)
 
 
 class Call:
     """Query: a call that compares its result itself."""
+
     request = None
 
     def __init__(self, call):
@@ -170,17 +287,24 @@ def further(asked, entries, shortest):
     each number of bytes to the buffer and leave each number in it."""
     by_algorithm = {(one.hash_name, one.cuts is None): one for one in (query.request for query in asked)}
     for (hash_name, is_once), one in by_algorithm.items():
-        for n, *cuts in [(n,) for n in LENGTHS if n >= shortest] if is_once else further_streams(one_shots.is_plain(hash_name)):
-            yield OfRequest(Request(hash_name, one.variant, n, one.secret_length, one.fixed_seed, None if is_once else cuts),
-                            entries)
+        for n, *cuts in (
+            [(n,) for n in LENGTHS if n >= shortest] if is_once else further_streams(one_shots.is_plain(hash_name))
+        ):
+            yield OfRequest(
+                Request(hash_name, one.variant, n, one.secret_length, one.fixed_seed, None if is_once else cuts),
+                entries,
+            )
         for n, secret in OTHER_SECRETS if is_once and one.secret_length else ():
             yield OfRequest(Request(hash_name, one.variant, n, secret), entries)
 
 
 def further_streams(is_plain):
     for k in range(1, 33 if is_plain else 65):
-        yield from [(32, k), (64, k), (2 * k + 1, k), (5 * k + 40, k), (3 * k + 200, k)] if is_plain else \
-            [(BUFFERED, k), (k + 600, k), (k + 2100, k)]
+        yield from [(32, k), (64, k), (2 * k + 1, k), (5 * k + 40, k), (3 * k + 200, k)] if is_plain else [
+            (BUFFERED, k),
+            (k + 600, k),
+            (k + 2100, k),
+        ]
     for k in range(1, 0 if is_plain else 128):
         yield BUFFERED + k, BUFFERED - k % 9
 
@@ -207,16 +331,25 @@ FOR_C = Beside([call for _, _, call in calls.OTHERS], xxh3_states.PROOFS, lambda
 
 # ---- queries by induction
 
+
 def by_induction(program, asked, section, updates):
     """Returns queries that prove some cases of updates and one-shots, chosen by the requests that run a section, and
     of the section if it takes stripes. The classes `updates` prove the streams of XXH3."""
-    found = {}
+    found: dict = {}
     for one in (query.request for query in asked):
         if one_shots.is_plain(one.hash_name):
-            found.setdefault((one.hash_name, one.cuts is None), functools.partial(
-                one_shot if one.cuts is None else plain_update, one.hash_name))
+            found.setdefault(
+                (one.hash_name, one.cuts is None),
+                functools.partial(one_shot if one.cuts is None else plain_update, one.hash_name),
+            )
         elif one.cuts is not None:
-            found.update({(ask, proof_class): functools.partial(ask, proof_class) for proof_class in updates for ask in of_streams(proof_class)})
+            found.update(
+                {
+                    (ask, proof_class): functools.partial(ask, proof_class)
+                    for proof_class in updates
+                    for ask in of_streams(proof_class)
+                }
+            )
         elif one.length > 240:
             for ask in (one_shot,) if one.secret_length is None else (own_secret, any_secret_of):
                 found.setdefault(ask, functools.partial(ask, f"{one.hash_name}:{one.variant}"))

@@ -1,6 +1,6 @@
-"""Derives from a source's exports which functions tasks must detect: each export's body, and each function that is reached
-from an export, is replaced by an instruction that ends a run with a refusal. Some task that shows one of these exports
-must fail then.
+"""Derives from a source's exports which functions tasks must detect: each export's body, and each function that is
+reached from an export, is replaced by an instruction that ends a run with a refusal. Some task that shows one of these
+exports must fail then.
 
 The tasks are those that the check runs. A task ends at its first failure here. Comparisons of code count only for what
 they show: a second name, and x86-64-v4's exports with the code of x86-64-v3."""
@@ -17,7 +17,14 @@ from .objects import Instruction
 from .one_shots import NAMES, WAYS
 
 SETS, CARGO = (V2, V3, V4), "cargo's "
-LATE = "any updates", "every length to", "any other length", "any length", "resets and digests", "that take stripes"      # titles of tasks that take longer
+LATE = (
+    "any updates",
+    "every length to",
+    "any other length",
+    "any length",
+    "resets and digests",
+    "that take stripes",
+)  # titles of tasks that take longer
 
 
 class Noticed(Exception):
@@ -25,6 +32,7 @@ class Noticed(Exception):
 
 
 # ---- a source's functions
+
 
 def reached(program, section):
     """Returns the sections that are reached from a section's code."""
@@ -64,9 +72,11 @@ def without(program, section, body):
 
 # ---- the tasks
 
+
 class Known:
-    """What shows an export of a library, given the name of a source: `titles` maps exports to the beginnings of titles; `twins` has the names with
-    another's code; `is_of_v3` is true for exports of x86-64-v4 that are compared with x86-64-v3's, by the task `of_v3`."""
+    """What shows an export of a library, given the name of a source: `titles` maps exports to the beginnings of titles;
+    `twins` has the names with another's code; `is_of_v3` is true for exports of x86-64-v4 that are compared with
+    x86-64-v3's, by the task `of_v3`."""
 
     def __init__(self, titles, twins, is_of_v3, of_v3):
         self.titles, self.twins, self.is_of_v3, self.of_v3 = titles, twins, is_of_v3, of_v3
@@ -85,18 +95,34 @@ class Known:
 def in_order(asked, name, names, beginnings):
     """Returns the tasks that show some exports of a source: those that take longer last, and first those whose titles
     have most of the exports' hash and way."""
+
     def key(task):
-        return [any(late in task.title for late in LATE), not task.title.startswith("streams: "),
-                -max(len([tag for tag in tags(one) if tag in task.title]) for one in names)]
+        return [
+            any(late in task.title for late in LATE),
+            not task.title.startswith("streams: "),
+            -max(len([tag for tag in tags(one) if tag in task.title]) for one in names),
+        ]
+
     others = [f", {text}" for text in SETS if not name.endswith(text)]
-    return sorted((task for task in asked if task.title.startswith(beginnings) and not any(text in task.title for text in others)), key=key)
+    return sorted(
+        (
+            task
+            for task in asked
+            if task.title.startswith(beginnings) and not any(text in task.title for text in others)
+        ),
+        key=key,
+    )
 
 
 def tags(export):
     """Returns what titles have of an export's hash and way."""
     name = export.replace("twox_rust_", "").replace("xxh3_64", "XXH3_64bits").replace("xxh3_128", "XXH3_128bits")
     matches = [(f"XXH{hash_name}", name.split(text, 1)[1]) for hash_name, text in NAMES.items() if text in name]
-    return [matches[0][0], *[f", {way}" for way, text in WAYS.items() if text and matches[0][1].endswith(text)][-1:]] if matches else []
+    return (
+        [matches[0][0], *[f", {way}" for way, text in WAYS.items() if text and matches[0][1].endswith(text)][-1:]]
+        if matches
+        else []
+    )
 
 
 def first_failure():
@@ -114,6 +140,7 @@ def first_failure():
                 proof.forget()
             ask()
         return len(asked), []
+
     stack = contextlib.ExitStack()
     stack.enter_context(unittest.mock.patch.object(comparison, "difference", stop))
     stack.enter_context(unittest.mock.patch.object(tasks, "count_shown", all_shown))
@@ -129,11 +156,13 @@ def fails(task):
 
 
 def unnoticed(name, program, asked, known, body=never, each=1):
-    """Removes each function of a source, or every `each`-th export if that isn't 1. Returns how many exports and others it
-    removed, and those that no task detects."""
+    """Removes each function of a source, or every `each`-th export if that isn't 1. Returns how many exports and others
+    it removed, and those that no task detects."""
     exported, bad = {section for section, _ in program.exports.values()}, []
-    found = [(section, names) for section, names in sorted(functions(program).items()) if each == 1 or section in exported]
-    found = found[each // 2 % len(found)::each]
+    found = [
+        (section, names) for section, names in sorted(functions(program).items()) if each == 1 or section in exported
+    ]
+    found = found[each // 2 % len(found) :: each]
     with first_failure():
         for section, names in found:
             with without(program, section, body(section)):

@@ -272,20 +272,13 @@ def side_shifted(width, a, b, k):
     return operations.either(BINARY["shl"](width, lifted(a), k), bits(b, width - k, k))
 
 
-@form(V1, "shld", "ill iqq")
+@form(V1, "shld shrd", "ill iqq")
 def shift_in(cpu, x, k, source, to):
     width = cpu.width(x)
-    cpu.put(to, width, side_shifted(width, cpu.get(to, width, x), cpu.get(source, width, x), k.value % width), x)
-    if k.value % width:
-        cpu.forget_flags()
-
-
-@form(V1, "shrd", "ill iqq")
-def shift_in_from_above(cpu, x, k, source, to):
-    width = cpu.width(x)
-    k = k.value % width
+    k, a, b = k.value % width, cpu.get(to, width, x), cpu.get(source, width, x)
+    is_right = k and x.mnemonic == "shrd"
+    cpu.put(to, width, side_shifted(width, b, a, width - k) if is_right else side_shifted(width, a, b, k), x)
     if k:
-        cpu.put(to, width, side_shifted(width, cpu.get(source, width, x), cpu.get(to, width, x), width - k), x)
         cpu.forget_flags()
 
 

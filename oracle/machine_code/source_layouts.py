@@ -1,4 +1,4 @@
-"""Compares the layouts of layouts.py with the source: the fields of a `repr(C)` structure lie in order, each aligned."""
+"""Compares the layouts of layouts.py with the source: fields of a `repr(C)` structure lie in order, each aligned."""
 import glob
 import os
 import re
@@ -6,14 +6,15 @@ import re
 from oracle.symbolic_terms import TOP
 
 from . import layouts
+from .wasm import layouts as record_layouts
 from .streams import ForC
 
 CRATES = os.path.join(TOP, "crates")
 STRUCTURE = re.compile(r"^#\[repr\(C\)\]\n(?:#\[[^\n]*\]\n)*pub struct (\w+) \{\n(.*?)^\}", re.M | re.S)
 FIELD = re.compile(r"^    (?:pub )?(\w+): (.+),$", re.M)
 NAMED = re.compile(r"^pub(?:\([^)]*\))? (?:const|type) (\w+)(?:: \w+)? = (.+);$", re.M)
-SIZES = {"u8": 1, "u32": 4, "u64": 8, "usize": 8}         # bytes of a type, to a multiple of which it is aligned
-XXH3, FEWEST = "twox_core/src/xxhash3", 11                # minimum number of comparisons
+SIZES = {"u8": 1, "u32": 4, "u64": 8, "usize": 8}  # bytes of a type, to a multiple of which it is aligned
+XXH3, FEWEST = "twox_core/src/xxhash3", 11  # minimum number of comparisons
 # Names of fields in the source that layouts.py has under one name.
 OTHER_NAMES = {"marked_usage": "marked", "total_low": "total", "total_len": "total"}
 
@@ -71,8 +72,11 @@ def differences(what, layout, source, marked="marked"):
     if hasattr(layout, "accumulators"):
         known["accumulators"] = tuple(known[name] for name in ("v1", "v2", "v3", "v4"))
         known["first_mark"] = source.number("MARK") if marked == "marked" else 0
-    yield from (f"{what}: {name} is {value}, and in the source {known.get(name)}"
-                for name, value in vars(layout).items() if known.get(name) != value)
+    yield from (
+        f"{what}: {name} is {value}, and in the source {known.get(name)}"
+        for name, value in vars(layout).items()
+        if known.get(name) != value
+    )
 
 
 def allocated():
@@ -84,15 +88,26 @@ def allocated():
 def of_source():
     """Returns the number of layouts, and all differences from the source."""
     state = Structure("Xxh3State", "twox_c/src/xxh3_state", XXH3)
-    bad = [*differences("a state", layouts.STATE, state), *differences("a core", layouts.CORE, Structure("CoreState", XXH3)),
-           *differences("a record", layouts.RECORD, Structure("Stream", "twox_web/src/stream_3", XXH3)),
-           *differences("taken stripes", layouts.TAKEN, Structure("StripeAccumulator", XXH3))]
+    bad = [
+        *differences("a state", layouts.STATE, state),
+        *differences("a core", layouts.CORE, Structure("CoreState", XXH3)),
+        *differences("a record", record_layouts.RECORD, Structure("Stream", "twox_web/src/stream_3", XXH3)),
+        *differences("taken stripes", layouts.TAKEN, Structure("StripeAccumulator", XXH3)),
+    ]
     for name in layouts.PLAIN:
         source = f"twox_plain/src/xxhash{name}"
         bad += differences(f"a state of XXH{name}", layouts.PLAIN[name], Structure("StateInMemory", source))
-        bad += differences(f"a record of XXH{name}", layouts.PLAIN_RECORDS[name], Structure("SavedState", source), "buffer_usage")
+        bad += differences(
+            f"a record of XXH{name}",
+            record_layouts.PLAIN_RECORDS[name],
+            Structure("SavedState", source),
+            "buffer_usage",
+        )
     marks = [state.number(name) for name in ("MARK_COPY", "MARK_3", "MARK_ADDRESS", "MARK_ADDRESS_AND_SEED")]
-    known = {"secrets": (layouts.OWN, state.fields["secret"][1]), "sizes": (ForC.SIZES, allocated()),
-             "marks": ([*layouts.OWN_MARKS, *layouts.CALLERS_MARKS], marks)}
+    known = {
+        "secrets": (layouts.OWN, state.fields["secret"][1]),
+        "sizes": (ForC.SIZES, allocated()),
+        "marks": ([*layouts.OWN_MARKS, *layouts.CALLERS_MARKS], marks),
+    }
     bad += [f"{what}: {ours}, and in the source {theirs}" for what, (ours, theirs) in known.items() if ours != theirs]
     return 4 + 2 * len(layouts.PLAIN) + len(known), bad

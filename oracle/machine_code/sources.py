@@ -5,10 +5,10 @@ import struct
 import subprocess
 import tempfile
 
+from assembly.same_bytes import Object, difference, differences
 from oracle.symbolic_terms import NotShown, Unsupported
 
 from .grammar import expect_grammar
-from .object_contents import Object, difference, differences
 
 GNU = {"x86-64": "as", "aarch64": "aarch64-linux-gnu-as"}
 TARGETS = {"x86-64": ("x86_64-linux-gnu", "x86_64-unknown-linux-gnu", "att_syntax, raw"),

@@ -1,6 +1,7 @@
 """A state of XXH3 in memory, parts of which are runs: bytes of a message or a secret at a symbolic offset or of a
 symbolic length."""
 import contextlib
+from typing import Optional
 
 from oracle.symbolic_terms import (NODES, RUNS, SYMBOL, Input, Node, Unsupported, in_order, is_inside, is_natural,
                                    is_same_number, is_within, minus, outside, plus)
@@ -35,11 +36,11 @@ def source_of(value, n):
 class State(WordMemory):
     """State that keeps stores to `buffer`, (first, end), as runs, and elsewhere copies of symbolic length."""
 
+    secret: Optional[Input]           # the caller's
+
     def __init__(self, name, length, cells, runs, buffer, alignment=8):
-        super().__init__(name, length, cells, alignment=alignment)
+        super().__init__(name, length, cells, runs, alignment=alignment)
         self.buffer = buffer
-        if runs:
-            self.cells[RUNS] = tuple(runs)
 
     def keeps_runs(self, at, n):
         return super().keeps_runs(at, n) or is_within(at, plus(at, n), *self.buffer)

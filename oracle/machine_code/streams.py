@@ -46,7 +46,8 @@ def reset(cpu, request, state):
     if request.secret_length != layouts.OWN:
         state.secret = request.secret
     name = "twox_c_reset_xxh3_secret" + ("_and_seed" if request.variant == "both" else "")
-    return cpu.call(name, address(state), address(request.secret), request.secret_length, cpu.fresh("an address"), *of_seed(request))
+    return cpu.call(name, address(state), address(request.secret), request.secret_length, cpu.fresh("an address"),
+                    *of_seed(request))
 
 
 def update(cpu, hash_name, state, piece):

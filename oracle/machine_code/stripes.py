@@ -7,8 +7,8 @@ from an iteration that ends a block, and then proved with everything else."""
 import collections
 import functools
 
-from oracle.symbolic_terms import (REFUSALS, Input, NotShown, divided, given, is_natural, is_same_number, minus, moved, plus,
-                                   same, suppositions, times, variable)
+from oracle.symbolic_terms import (REFUSALS, Input, NotShown, divided, given, is_natural, is_same_number, minus, moved,
+                                   plus, same, suppositions, times, variable)
 
 from . import layouts
 from .induction import Family, Proof
@@ -17,7 +17,7 @@ from .values import Address
 
 # Consecutive stripes: the first place, their number, and the place behind them.
 Part = collections.namedtuple("Part", "start turns end")
-ACCUMULATOR_BYTES = PLACE = layouts.TAKEN.current_stripe      # bytes of accumulators, behind which the position in a block lies
+ACCUMULATOR_BYTES = PLACE = layouts.TAKEN.current_stripe      # bytes of accumulators, before the position in a block
 TAKEN = layouts.TAKEN.size                        # bytes of both
 # For guessed iterations: stripes left, stripes to the block's end, and whether to run two iterations.
 GUESSES = (4, 2, True), (64, 8, True), (64, 4, False)
@@ -101,7 +101,8 @@ class StripesProof(Proof):
     def guess_of_some(self, first):
         """Guesses the loop's cells, with the numbers of stripes in GUESSES left, in total and to the block's end."""
         for left, more, is_twice in GUESSES:
-            facts = minus(self.family.q, plus(self.first_place[1], more, 1)), minus(self.family.total, plus(first, left))
+            facts = (minus(self.family.q, plus(self.first_place[1], more, 1)),
+                     minus(self.family.total, plus(first, left)))
             if any(is_natural(minus(-1, fact)) for fact in facts):
                 continue
             try:
@@ -183,7 +184,8 @@ class Summary:
     of xxh3_updates.py proves this of the function; `put_into` assumes it at its calls."""
 
     def __init__(self, name, has_place=True, least=0, has_length=True, is_in_place=False):
-        self.name, self.size, self.has_place, self.least = name, TAKEN if has_place else ACCUMULATOR_BYTES, has_place, least
+        self.name, self.size, self.has_place, self.least = \
+            name, TAKEN if has_place else ACCUMULATOR_BYTES, has_place, least
         self.has_length = has_length     # whether the secret's length is an argument
         self.is_in_place = is_in_place   # whether it updates the record in place
 

@@ -2,6 +2,7 @@
 import functools
 import itertools
 import os
+from typing import Any
 
 from oracle.symbolic_terms import REFUSALS, TOP, Request, WrongRule, comparison, nodes, variable
 from oracle.symbolic_terms.processes import Task
@@ -44,17 +45,17 @@ def programs():
 def makers(texts):
     """Maps each name to a function that makes a processor of its source. The tasks' processes share the instructions'
     functions, which are looked up here."""
-    processors = {name: functools.partial(CargoProcessor, program) if isinstance(program, CargoProgram) else
-                  functools.partial(Processor, program, name) for name, program in texts.items()}
+    processors = {name: functools.partial(Processor, program, name) if not isinstance(program, CargoProgram) else
+                  functools.partial(CargoProcessor, program) for name, program in texts.items()}
     for make in processors.values():
         make()
     return processors
 
 
-def counted(title, least, ask):
-    """Returns a task with a minimum number of cases: `ask` returns the number that passed, the failures, and remarks."""
+def counted(title, least, ask, *arguments):
+    """Returns a task with a minimum number of cases: `ask` returns how many passed, the failures, and remarks."""
     def outcome():
-        count, bad, *remarks = ask()
+        count, bad, *remarks = ask(*arguments)
         few = [f"{count} cases, and {least} at least are wanted"] if count < least and not bad else []
         return "; ".join([f"{count} cases", *remarks]), bad + few
     return Task(title, outcome)
@@ -63,9 +64,9 @@ def counted(title, least, ask):
 def choose(options, texts):
     """Returns the tasks on c/asm."""
     processors, is_all = makers(texts), options.all
-    tasks = [*one_shot_tasks(processors, is_all), *secret_tasks(processors, is_all), *every_length_tasks(processors, is_all),
-             *stream_tasks(processors, is_all), *call_tasks(texts, processors, is_all)]
-    tasks += [assembler_task([(f"{FOLDER}/{name}.s", V1) for name in texts])]
+    tasks = [*one_shot_tasks(processors, is_all), *secret_tasks(processors, is_all),
+             *every_length_tasks(processors, is_all), *stream_tasks(processors, is_all),
+             *call_tasks(texts, processors, is_all), assembler_task([(f"{FOLDER}/{name}.s", V1) for name in texts])]
     tasks.insert(0, export_task(texts, [task.title for task in tasks]))
     return tasks
 
@@ -93,11 +94,12 @@ def compared(processors, title, requests, side=one_shots):
     lengths = [request.length for request in requests]
 
     def ask():
-        return comparison.compare({name: functools.partial(side.of_text, make()) for name, make in processors.items()}, requests)
+        sides = {name: functools.partial(side.of_text, make()) for name, make in processors.items()}
+        return comparison.compare(sides, requests)
     return counted(f"{title}: {min(lengths)} to {max(lengths)} bytes", len(requests) * len(processors), ask)
 
 
-def one_by_one(processors, algorithm, lengths, more=""):
+def one_by_one(processors, algorithm: tuple[str, str, Any], lengths, more=""):
     return compared(processors, comparison.title_of(*algorithm) + more, comparison.requests(*algorithm, lengths))
 
 
@@ -112,15 +114,15 @@ def one_shot_tasks(processors, is_all):
     for algorithm in comparison.algorithms(SECRETS) if is_all else ():
         yield one_by_one(processors, algorithm, comparison.edges(algorithm[2]), ", at edges")
         if algorithm[2] is None and algorithm[0].startswith("3-"):
-            yield from [one_by_one(processors, algorithm, MORE), one_by_one(processors, algorithm, [every_length.PREFETCHED])]
+            yield from (one_by_one(processors, algorithm, lengths) for lengths in (MORE, [every_length.PREFETCHED]))
 
 
 def secret_tasks(processors, is_all):
     """Yields the tasks of secrets of several lengths: all, or every third."""
     for hash_name in ("3-64", "3-128"):
-        requests = (Request(hash_name, variant, n, size) for size in SOME_SECRETS for variant in ("secret", "both")
-                    for n in (240, 700))
-        yield compared(processors, f"XXH{hash_name}, secrets of 136 to 1000 bytes", list(requests)[::1 if is_all else 3])
+        requests = [Request(hash_name, variant, n, size) for size in SOME_SECRETS for variant in ("secret", "both")
+                    for n in (240, 700)][::1 if is_all else 3]
+        yield compared(processors, f"XXH{hash_name}, secrets of 136 to 1000 bytes", requests)
 
 
 def stream_tasks(processors, is_all):
@@ -131,30 +133,31 @@ def stream_tasks(processors, is_all):
     yield from xxh3_tasks(processors, is_all)
 
 
-def plain_stream_tasks(processors, is_all, some=SOME_UPDATES, title="streams of XXH{}: any updates", names=("32", "64")):
-    """Yields the tasks of streams of XXH32 and XXH64: all cases, in parts, or a sample. Only both have resets and digests."""
+def plain_stream_tasks(processors, is_all, some=SOME_UPDATES, title="streams of XXH{}: any updates",
+                       names=("32", "64")):
+    """Yields the tasks of streams of XXH32 and XXH64: all cases, or a sample. Only both have resets and digests."""
     yield counted("each update of XXH32 and XXH64 has its task", 2, updates_left_out)
     for hash_name in names:
         count = len(list(any_updates.updates(hash_name)))
         for name, make in processors.items():
             for part in range(UPDATE_PARTS) if is_all else [None]:
-                portion = f"part {part + 1} of {UPDATE_PARTS}" if is_all else f"each {some}th case"
+                portion = f"each {some}th case" if part is None else f"part {part + 1} of {UPDATE_PARTS}"
                 least = count // (UPDATE_PARTS if is_all else some)
-                yield counted(f"{title.format(hash_name)}, to 2^64 - 1 bytes, {name}, {portion}", least, functools.partial(
-                    any_streams, make, hash_name, part, some, len(names) > 1))
+                yield counted(f"{title.format(hash_name)}, to 2^64 - 1 bytes, {name}, {portion}", least,
+                              any_streams, make, hash_name, part, some, len(names) > 1)
 
 
 def xxh3_tasks(processors, is_all, proofs=xxh3_states.PROOFS):
-    """Yields the tasks of streams of XXH3 with any updates, by proofs of some kinds: all cases, in parts, or a sample."""
+    """Yields the tasks of streams of XXH3 with any updates, by proofs of some kinds: all cases, in parts, or some."""
     for proof_class, (name, make) in itertools.product(proofs, processors.items()):
         yield counted(f"{proof_class.TITLE}: each case has its task, {name}", COVERED[is_all] // 3,
-                      functools.partial(points_left_out, make, is_all, proof_class))
+                      points_left_out, make, is_all, proof_class)
         for what in proof_class.TASKS:
             some, parts = XXH3_CASES[what]
             for part in range(parts) if is_all else [None]:
-                portion = f"part {part + 1} of {parts}" if is_all else "some cases"
+                portion = "some cases" if part is None else f"part {part + 1} of {parts}"
                 yield counted(f"{proof_class.TITLE}: {what}, to 2^64 - 1 bytes, {name}, {portion}", some,
-                              functools.partial(any_xxh3, make, what, part, proof_class))
+                              any_xxh3, make, what, part, proof_class)
 
 
 def points_left_out(make, is_all, proof_class):
@@ -219,9 +222,9 @@ def every_length_tasks(processors, is_all):
     for algorithm in every_length.UNROLLED:
         yield from of_every_length(before_v4(processors), algorithm, f"XXH{algorithm}: every length to 2^64 - 1",
                                    every_length.cases(algorithm)[::1 if is_all else SOME_OF_PLAIN])
-    if not is_all:
-        yield from [task for name in ("3-64", "3-128") for task in of_every_length(
-            processors, f"{name}:seed", f"XXH{name}, seed: two cases of every length", every_length.cases(f"{name}:seed")[:2])]
+    for name in ("3-64", "3-128") if not is_all else ():
+        yield from of_every_length(processors, f"{name}:seed", f"XXH{name}, seed: two cases of every length",
+                                   every_length.cases(f"{name}:seed")[:2])
     yield from [*long_tasks(processors, is_all), *(short_tasks_of_v4(processors) if is_all else ())]
 
 
@@ -233,19 +236,19 @@ def long_tasks(processors, is_all):
         for seed in (None, 0) if way == "seed" else (None,):
             title = f"XXH{hash_name}, {way}{' 0' if seed == 0 else ''}: every length to 2^64 - 1"
             yield from of_every_length(processors, algorithm, title, every_length.cases(algorithm), seed)
-    yield from [counted(f"XXH{algorithm.replace(':', ', ')} of any length: 0 to 240 bytes, {name}", 241, functools.partial(
-        up_to_240, make, algorithm)) for algorithm in (ANY_SECRET if is_all else ()) for name, make in processors.items()]
+    for algorithm, (name, make) in itertools.product(ANY_SECRET if is_all else (), processors.items()):
+        title = f"XXH{algorithm.replace(':', ', ')} of any length: 0 to 240 bytes, {name}"
+        yield counted(title, 241, up_to_240, make, algorithm)
 
 
 def any_secret_tasks(processors, is_all, algorithms):
     """Yields the tasks of XXH3 from 241 bytes on with any secret: all cases, or some."""
-    yield counted("every length with any secret has its task", COVERED[is_all],
-                  functools.partial(secrets_left_out, processors, is_all))
+    yield counted("every length with any secret has its task", COVERED[is_all], secrets_left_out, processors, is_all)
     for algorithm in algorithms:
         title, portion = f"XXH{algorithm.replace(':', ', ')} of", "" if is_all else ", some cases"
-        yield from [counted(f"{title} any other length: every length from 241 on, {name}{portion}", 2,
-                            functools.partial(any_secrets, make, algorithm, 1 if is_all else SOME_LENGTHS[algorithm != algorithms[0]]))
-                    for name, make in processors.items()]
+        step = 1 if is_all else SOME_LENGTHS[algorithm != algorithms[0]]
+        yield from [counted(f"{title} any other length: every length from 241 on, {name}{portion}", 2, any_secrets,
+                            make, algorithm, step) for name, make in processors.items()]
         if is_all:
             title = f"{title} 192 to 199 bytes: every length from 241 on"
             yield from of_every_length(before_v4(processors), algorithm, title, every_length.of_secret())
@@ -254,12 +257,13 @@ def any_secret_tasks(processors, is_all, algorithms):
 
 def short_tasks_of_v4(processors):
     """Returns tasks of secrets of 192 bytes for x86-64-v4: the lengths missing in its tasks of every length."""
-    return [one_by_one(only_v4(processors), (*algorithm.split(":"), 192), [*range(241, MORE.stop), every_length.PREFETCHED], f", {V4}")
-            for algorithm in ANY_SECRET]
+    asked = [*range(241, MORE.stop), every_length.PREFETCHED]
+    return [one_by_one(only_v4(processors), (name, way, 192), asked, f", {V4}")
+            for name, way in (algorithm.split(":") for algorithm in ANY_SECRET)]
 
 
 def of_every_length(processors, algorithm, title, asked, seed=None):
-    return [counted(f"{title}, {name}", len(asked), functools.partial(shown, make, algorithm, asked, seed))
+    return [counted(f"{title}, {name}", len(asked), shown, make, algorithm, asked, seed)
             for name, make in processors.items()]
 
 
@@ -306,18 +310,20 @@ def up_to_240(make, algorithm):
 
 # ---- the other calls
 
-def of_each(processors, title, least, call):
+def of_each(processors, title, least, call, *more):
     """Returns a task that calls a function on each processor. The function returns its number of cases, or raises."""
-    return counted(title, least * len(processors), lambda: (sum(call(make()) for make in processors.values()), []))
+    return counted(title, least * len(processors),
+                   lambda: (sum(call(make(), *more) for make in processors.values()), []))
 
 
 def call_tasks(texts, processors, is_all):
     sizes = [0, 1, 135, 136, 137, 143, 144, 191, 192, 256, 1000] if not is_all else [*range(0, 301), 1000]
     seeds = [0, 1, 17, 136, 241, 300, 1100] if is_all else [0, 3, 241, 1100]
-    generated = [(size, length) for size in sizes for length in (seeds if is_all or size == 136 else seeds[size % 4:][:1])]
+    generated = [(size, n) for size in sizes for n in (seeds if is_all or size == 136 else seeds[size % 4:][:1])]
     of = functools.partial(of_each, before_v4(processors))
-    return [*(of(*call) for call in calls.WITHOUT_MESSAGE), *(of_each(processors, *call) for call in calls.OF_MESSAGES + calls.SHORT_SECRETS),
-            of_each(processors, "made secrets", len(generated) + len(OF_LONG_SEEDS), functools.partial(generated_secrets, asked=generated)),
+    return [*(of(*call) for call in calls.WITHOUT_MESSAGE),
+            *(of_each(processors, *call) for call in calls.OF_MESSAGES + calls.SHORT_SECRETS),
+            of_each(processors, "made secrets", len(generated) + len(OF_LONG_SEEDS), generated_secrets, generated),
             counted(f"exports of {V4} that have the code of {V3}", 24,
                     lambda: (exports.expect_code_of_v3(texts[V4], texts[V3]), [])),
             twin_task(texts), frames_task(texts)]

@@ -1,14 +1,15 @@
 """Compares a source's unwinding table with its instructions: at each one the callee-saved registers are where the table
-has them. At a function's first instruction each is in its register, by the table. For each instruction and each one that
-may follow, a register stays where it was, or is stored or loaded, exactly as the table says.
+has them. At a function's first instruction each is in its register, by the table. For each instruction and each one
+that may follow, a register stays where it was, or is stored or loaded, exactly as the table says.
 
 Stores through another register than the stack pointer aren't followed here."""
 import struct
 
+from assembly.eh_frame import Table
 from oracle.symbolic_terms import NotShown, signed
 
 from .instructions import PARTS, VECTORS
-from .object_contents import CODE, Table
+from .object_contents import CODE
 from .objects import Immediate, Register
 
 VECTOR_BYTES = {"x": 16, "y": 32, "z": 64}
@@ -16,7 +17,7 @@ NOTHING, ANYWHERE = (0, 0), (-(1 << 14), 1 << 14)         # bytes that an instru
 
 
 class X86:
-    """The parts that depend on the processor. `NUMBERS` are DWARF's numbers of the callee-saved registers; `ENTRY` is the
+    """The parts that depend on the processor. `NUMBERS` are DWARF's numbers of callee-saved registers; `ENTRY` is the
     frame before a function's first instruction: the distance from the stack pointer to the CFA, and places below it."""
     NUMBERS = {"rbx": 3, "rbp": 6, "r12": 12, "r13": 13, "r14": 14, "r15": 15}
     ENTRY = 8, {16: -8}                  # the return address
@@ -35,12 +36,13 @@ class X86:
             return 8, {used[0]: -8} if used else {}, {}, [], (-8, 0)
         if name == "pop":
             return -8, {}, {used[0]: 0}, used, NOTHING
-        if name in ("add", "sub") and used == ["rsp"] and isinstance(x.operands[0], Immediate):
+        if name in ("add", "sub") and x.operands[1:] == (Register("rsp"),) and isinstance(x.operands[0], Immediate):
             return signed(x.operands[0].value, 64) * (1 if name == "sub" else -1), {}, {}, [], NOTHING
         used = used[1:] if name == "mov" and x.operands[0] == Register("rsp") else used        # only read
         place = next((y for y in x.operands if not isinstance(y, (Register, Immediate)) and y.base == "rsp"), None)
         at, is_store = place.displacement if place else 0, place is not None and x.operands[-1] is place
-        if name == "mov" and place and not place.index and used and used[0] in cls.NUMBERS and Register(used[0]) in x.operands:
+        if name == "mov" and place and not place.index and used and used[0] in cls.NUMBERS and \
+                Register(used[0]) in x.operands:
             there = {used[0]: at}
             return (0, there, {}, [], (at, at + 8)) if is_store else (0, {}, there, used, NOTHING)
         sizes = [VECTOR_BYTES[y.name[0]] for y in x.operands if isinstance(y, Register) and y.name in VECTORS]
@@ -74,7 +76,7 @@ def followed(processor, code, section, table):
             continue
         known.add(at)
         x, before = code[at], table.at(section, at)
-        following = ([x.target] if processor.is_jump(x) else []) + ([(section, x.end)] if x.mnemonic not in processor.ENDS else [])
+        following = [x.target] * processor.is_jump(x) + [(section, x.end)] * (x.mnemonic not in processor.ENDS)
         for name, place in following or [(None, 0)] * (x.mnemonic in processor.RETURNS):
             after = table.at(section, place) if name == section else processor.ENTRY
             fault = difference(processor, x, before, after)

@@ -5,8 +5,8 @@ is a number. An object's address is only known to be nonzero and aligned. Values
 operations.py are also compared at the points."""
 import contextlib
 
-from oracle.symbolic_terms import (BINARY, Node, Poly, Undecided, WrongRule, as_word, constant_of, divided, is_natural, lifted,
-                                   minus, nodes, ones, operations, parts_of, plus, symbol, wrapped, zeros_below)
+from oracle.symbolic_terms import (BINARY, Node, Poly, Undecided, WrongRule, as_word, constant_of, divided, is_natural,
+                                   lifted, minus, nodes, ones, operations, parts_of, plus, symbol, wrapped, zeros_below)
 
 WORD = 64
 HALF, WHOLE = 1 << 63, 1 << 64
@@ -244,18 +244,12 @@ def high_and_low(a, b):
 
 def joined(*parts):
     """Concatenates values, each as (value, width), the lowest bits first."""
-    parts = [part for part in parts if part[1]]
-    if len(parts) == 1 or not all(isinstance(x, (int, Poly, Node)) for x, _ in parts):
-        return only(parts)
-    return operations.side_by_side(*((lifted(x), width) for x, width in parts))
-
-
-def only(parts):
-    """Returns the value of the only part, or raises."""
-    (x, width), *others = parts
-    if others:
-        raise Undecided(f"{x} beside other bits")
-    return low(x, width)
+    some = [part for part in parts if part[1]]
+    if len(some) == 1:
+        return low(*some[0])
+    if not all(isinstance(x, (int, Poly, Node)) for x, _ in some):
+        raise Undecided(f"{some[0][0]} beside other bits")
+    return operations.side_by_side(*((lifted(x), width) for x, width in some))
 
 
 def is_term(*values):

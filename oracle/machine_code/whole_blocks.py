@@ -8,9 +8,9 @@ import itertools
 from oracle.symbolic_terms import Poly, minus, names_of, parts_of, plus, times, variable
 from oracle.symbolic_terms.polynomials import is_sum_of_facts
 
-BLOCKS = "D"                      # the variable for the number of blocks
-TRIED = 2                         # number of facts combined to refute another one
-FOURTHS = {"a": range(3), "e": range(1, 4)}          # of a block: where such cases begin and end
+BLOCKS = "D"  # the variable for the number of blocks
+TRIED = 2  # number of facts combined to refute another one
+FOURTHS = {"a": range(3), "e": range(1, 4)}  # of a block: where such cases begin and end
 
 
 def in_few(case):
@@ -36,6 +36,7 @@ def may_hold(facts):
 
 
 # ---- substitution
+
 
 def in_numbers(x, name, value):
     """Replaces a variable by a number in all polynomials of a structure."""

@@ -1,10 +1,10 @@
-"""Proves the states of XXH3 of the C library, with an own secret of 192 bytes or one of the caller, which each call takes. An
-update by a chunk that doesn't fit in the buffer adds its length, and is one call of a function of `Through`."""
+"""Proves the states of XXH3 of the C library, with an own secret of 192 bytes or one of the caller, which each call
+takes. An update by a chunk that doesn't fit in the buffer adds its length, and is a call of a function of `Through`."""
 import functools
 import itertools
 
-from oracle.symbolic_terms import (LONGEST, NotShown, Piece, at_most, given, is_natural, is_same_number, minus, nodes, plus, same, times,
-                                   variable)
+from oracle.symbolic_terms import (LONGEST, NotShown, Piece, at_most, given, is_natural, is_same_number, minus, nodes,
+                                   plus, same, times, variable)
 
 from . import exports, layouts, streams
 from .memory import ENTRY
@@ -20,7 +20,7 @@ BOTH = THROUGH, f"{THROUGH}.2"
 
 
 class Through(Xxh3Updates):
-    """Proofs of these functions: they get the counts, the chunk, the secret and the buffer, with the total of afterwards."""
+    """Proofs of these functions: they get the counts, the chunk, the secret and the buffer, with the total after it."""
     at, TITLE = layouts.STATE, "streams of XXH3, chunks that don't fit in the buffer"
 
     def queries(self, what):
@@ -37,18 +37,21 @@ class Through(Xxh3Updates):
         total = state.load(self.at.total_bytes, 8)
         state.store(self.at.total_bytes, 8, total if is_same_number(total, LONGEST) else plus(total, piece.length))
         cpu.call(BOTH[is_natural(minus(piece.length, LONG_PIECE))], address(state), address(piece), piece.length,
-                 address(self.secret_source), self.secret_length, address(state, self.at.buffer), into=cpu.TAKES_STRIPES)
+                 address(self.secret_source), self.secret_length, address(state, self.at.buffer),
+                 into=cpu.TAKES_STRIPES)
         if cpu.stack.lowest < ENTRY - 2 * DEEP:
             raise NotShown(f"{THROUGH}: more than {2 * DEEP} bytes of stack")
 
 
 class CallersSecret(Xxh3Updates):
     """Proofs of states with a secret of the caller, of any length, and with each mark."""
-    at, TASKS, TITLE = layouts.STATE, (UPDATES, DIGESTS), "streams of XXH3, a caller's secret"
-    MARKS, SPANS = layouts.CALLERS_MARKS, ((1, LONG_PIECE - 1), (LONG_PIECE, None))      # lengths that have a path
+    at, TITLE, MARKS = layouts.STATE, "streams of XXH3, a caller's secret", layouts.CALLERS_MARKS
+    TASKS: tuple[str, ...] = UPDATES, DIGESTS
+    SPANS: tuple[tuple, ...] = (1, LONG_PIECE - 1), (LONG_PIECE, None)      # lengths that have a path
 
     def queries(self, what):
-        long = [functools.partial(self.long_update, *case, is_lost) for case in self.long_pieces() for is_lost in (False, True)]
+        long = [functools.partial(self.long_update, *case, is_lost)
+                for case in self.long_pieces() for is_lost in (False, True)]
         return [*super().queries(what), *(long if what == UPDATES else [])]
 
     def all_updates(self):
@@ -68,16 +71,17 @@ class CallersSecret(Xxh3Updates):
         """Yields the chunks that don't fit, as arguments of `long_update`. A full buffer is a separate case."""
         b, j, f, n = (variable(name) for name in "bjfn")
         bounds = (1, self.capacity - 1), (self.capacity, self.capacity)
-        for place, buffered, facts in (((0, 0), 0, []), *(((b, j), f, [minus(minus(self.q, 1), j), minus(f, low), at_most(f, high)])
-                                                          for low, high in bounds)):
+        for place, buffered, facts in (((0, 0), 0, []), *(
+                ((b, j), f, [minus(minus(self.q, 1), j), minus(f, low), at_most(f, high)]) for low, high in bounds)):
             length = plus(minus(self.capacity + 1, buffered), n)
             for least, most in self.SPANS:
                 if most is None or buffered is f or most > self.capacity:
-                    yield place, buffered, length, [*facts, minus(length, least), *([at_most(length, most)] if most else [])], not most
+                    yield (place, buffered, length,
+                           [*facts, minus(length, least), *([at_most(length, most)] if most else [])], not most)
 
     def long_update(self, place, f, length, facts, is_long, is_lost):
-        """Proves that an update adds the chunk's length, or becomes 2 ^ 64 - 1, and is one call of a function of `Through`,
-        after which it changes nothing. Without buffered bytes the total is 0."""
+        """Proves that an update adds the chunk's length, or becomes 2 ^ 64 - 1, and is one call of a function of
+        `Through`, after which it changes nothing. Without buffered bytes the total is 0."""
         begun, lost = plus(times(64, self.stripes(place)), f), variable("lost")
         self.begin(plus(begun, length, variable("rest")))
         of_lost = [at_most(lost, minus(length, 1))] if is_lost else []
@@ -87,22 +91,26 @@ class CallersSecret(Xxh3Updates):
                 state.store(self.at.total_bytes, 8, minus(LONGEST, lost) if is_lost else begun)
                 expected = {**state.cells, self.at.total_bytes: (8, LONGEST if is_lost else plus(begun, length))}
                 self.run([state], functools.partial(self.ask_long, calls), [], state, Piece(self.source, begun, length))
-                if [index for index, _ in calls] != [is_long] or any(state.cells[at] is not x for at, x in calls[0][1].items()):
+                if [index for index, _ in calls] != [is_long] or \
+                        any(state.cells[at] is not x for at, x in calls[0][1].items()):
                     raise NotShown(f"an update of {length} bytes: {len(calls)} calls, or a change after one")
                 self.expect_cells("a call for a chunk that doesn't fit", state, expected)
 
     def ask_long(self, calls, state, piece):
         for index, name in enumerate(BOTH):
-            self.cpu.replaced[self.cpu.program.functions[name]] = functools.partial(self.called, calls, index, state, piece)
+            self.cpu.replaced[self.cpu.program.functions[name]] = functools.partial(
+                self.called, calls, index, state, piece)
         self.library.update(self.cpu, "3-64", state, piece)
 
     def called(self, calls, index, state, piece):
         """Checks a call of a function of `Through`."""
         counts, chunk, length, secret, size, buffer = map(self.cpu.argument, self.cpu.TAKES_STRIPES)
-        is_secret = secret.place() == (state, self.at.secret) if self.secret_runs() else is_at(secret, self.secret_source, 0, size)
+        is_secret = secret.place() == (state, self.at.secret) if self.secret_runs() else \
+            is_at(secret, self.secret_source, 0, size)
         _, floor = self.cpu.frame()
-        if floor % 16 or floor < LEAST_ENTRY or counts.place() != (state, 0) or buffer.place() != (state, self.at.buffer) or \
-                chunk.place() != (piece, 0) or not is_same_number(length, piece.length) or not is_secret or \
+        if floor % 16 or floor < LEAST_ENTRY or counts.place() != (state, 0) or \
+                buffer.place() != (state, self.at.buffer) or chunk.place() != (piece, 0) or \
+                not is_same_number(length, piece.length) or not is_secret or \
                 not is_same_number(size, self.secret_length):
             raise NotShown(f"a call of {THROUGH} with {length} bytes, and a secret of {size}")
         calls.append((index, dict(state.cells)))
@@ -170,7 +178,8 @@ class OwnSecret(CallersSecret):
         yield from (case for case in super().digests() if not case[3])
         for g, j in itertools.product(range(1, self.whole), range(BLOCK)):
             f, end = plus(times(64, g), h, 1), (plus(b, (j + g) // BLOCK), (j + g) % BLOCK)
-            yield (b, j), f, [minus(plus(times(64, self.stripes((b, j))), f), SHORT + 1), at_most(h, 63)], [Part((b, j), g, end)]
+            yield ((b, j), f, [minus(plus(times(64, self.stripes((b, j))), f), SHORT + 1), at_most(h, 63)],
+                   [Part((b, j), g, end)])
 
 
 PROOFS = Through, CallersSecret, OwnSecret

@@ -12,9 +12,10 @@ stripes (stripes.py), and those for chunks that don't fit in the buffer (xxh3_st
 import collections
 import functools
 import itertools
+from typing import Any, Callable
 
-from oracle.symbolic_terms import (LONGEST, LONGEST_SECRET, RUNS, Bytes, NotShown, Piece, at_most, given, is_natural, is_same,
-                                   is_same_number, minus, nodes, plus, same, suppositions, times, variable)
+from oracle.symbolic_terms import (LONGEST, LONGEST_SECRET, RUNS, Bytes, NotShown, Piece, at_most, given, is_natural,
+                                   is_same, is_same_number, minus, nodes, plus, same, suppositions, times, variable)
 
 from . import layouts
 from .every_length import FAR, Cases
@@ -43,6 +44,7 @@ ANY, OF_16, OF_DEFAULT = (None, None), (BLOCK, None), (BLOCK, 0)
 
 # State before an update that takes stripes: r bytes complete the buffer's g stripes, which end at `behind`.
 Start = collections.namedtuple("Start", "place g r behind facts")
+Pair = tuple[Any, Any]            # a place and the number of buffered bytes
 # Lengths (from, to) for which a source has separate code to copy.
 SHORT_COPIES = (1, 1), (2, 3), (4, 7), (8, 16), (17, 32), (33, 63)
 
@@ -55,13 +57,14 @@ def lengths(name, spans):
 
 
 def stripes_of(whole, least=1):
-    """Yields (stripes, facts) of a buffer of at most `whole` stripes: each number, or, if they aren't few, a variable."""
+    """Yields (stripes, facts) of a buffer of at most `whole` stripes: each number, or a variable if they aren't few."""
     yield from ((g, []) for g in range(least, whole + 1) if whole <= FEW_STRIPES)
-    yield from [(variable("g"), [minus(variable("g"), least), at_most(variable("g"), whole)])] if whole > FEW_STRIPES else []
+    yield from lengths("g", [(least, whole)] * (whole > FEW_STRIPES))
 
 
 def starts(whole, is_split, gs=None):
-    """Yields the nonempty states of a buffer of `whole` stripes: g in it that end within the block, at its end, or behind it."""
+    """Yields the nonempty states of a buffer of `whole` stripes: g in it that end within the block, at its end, or
+    behind it."""
     b, j, q = (variable(name) for name in "bjq")
     for r, of_r in [(0, []), *lengths("r", SHORT_COPIES)]:
         for g, of_g in [(g, []) for g in gs or ()] or stripes_of(whole):
@@ -93,10 +96,14 @@ EMPTY = Start((0, 0), 0, 0, (0, 0), [])
 
 class Xxh3Updates(Cases):
     at = layouts.CORE
-    HAS_SEED, has_seed = (0, 1), 0      # whether a stream was created with a seed
-    TASKS = UPDATES, STRIPES      # the kinds of tasks of a source
+    HAS_SEED: tuple[int, ...] = 0, 1      # whether a stream was created with a seed
+    has_seed = 0
+    TASKS: tuple[str, ...] = UPDATES, STRIPES      # the kinds of tasks of a source
     HAS_COUNTERS = True           # that stay at 2 ^ 64 - 1
     longest_secret, longest_piece = LONGEST_SECRET, LONGEST
+    TITLE: str
+    resets: Callable              # of sources with DIGESTS, as `reset`
+    reset: Callable
 
     def __init__(self, cpu):
         self.cpu, self.capacity, self.whole = cpu, self.at.capacity, self.at.capacity // STRIPE
@@ -156,7 +163,8 @@ class Xxh3Updates(Cases):
     def numbers(self, place, f):
         """Returns the numbers in a state, except accumulators and buffer: (offset, value) of 8 bytes."""
         k, at = self.stripes(place), self.at
-        return [(at.current_stripe, place[1]), (at.count, k), (at.buffer_usage, f), (at.total_bytes, plus(times(64, k), f))]
+        return [(at.current_stripe, place[1]), (at.count, k), (at.buffer_usage, f),
+                (at.total_bytes, plus(times(64, k), f))]
 
     def own(self):
         """Returns the fields that only a state of the C library or a record of a module has, the seed last."""
@@ -185,7 +193,8 @@ class Xxh3Updates(Cases):
         self.seed = self.cpu.fresh("seed") if seed is None else seed
         cells = [*self.cells_of(self.accumulators(place)), *self.numbers(place, f), *self.own()]
         state = State("state", self.size(), [(at, 8, x) for at, x in cells],
-                      [*self.buffered(place, f), *runs, *self.secret_runs()], (self.at.buffer, self.at.buffer + self.capacity))
+                      [*self.buffered(place, f), *runs, *self.secret_runs()],
+                      (self.at.buffer, self.at.buffer + self.capacity))
         state.secret = None if self.secret_runs() else self.secret_source
         return state
 
@@ -214,8 +223,10 @@ class Xxh3Updates(Cases):
 
     def any_update(self, *case):
         """Proves an update, also with counters that stay at 2 ^ 64 - 1."""
-        for ask in (self.update, self.lost_totals, self.lost_counts) if self.HAS_COUNTERS else (self.update,):
-            ask(*case)
+        self.update(*case)
+        if self.HAS_COUNTERS:
+            self.lost_totals(*case)
+            self.lost_counts(*case)
 
     def lost_totals(self, start, end, length, facts, *more):
         """Proves the same update with another total: the sum with the chunk's length is 2 ^ 64 or more, and the total
@@ -250,10 +261,10 @@ class Xxh3Updates(Cases):
         for is_short, of_end in self.ways_to_end(end, facts):
             self.update_to(is_short, start, end, length, [*facts, *of_end], *more, **lost)
 
-    def update_to(self, is_short, start, end, length, facts, parts=(), summaries=(), lost=()):
-        """Proves an update to a state whose buffer ends with the last stripe if it `is_short`: a stripe of some part, or
-        otherwise the same as before. `lost` has the values of counters that are other ones before, and 2 ^ 64 - 1 after
-        it, by their offsets."""
+    def update_to(self, is_short, start: Pair, end: Pair, length, facts, parts=(), summaries=(), lost=()):
+        """Proves an update to a state whose buffer ends with the last stripe if it `is_short`: a stripe of some part,
+        or otherwise the same as before. `lost` has the values of counters that are other ones before, and 2 ^ 64 - 1
+        after it, by their offsets."""
         begun, ended = (plus(times(64, self.stripes(place)), f) for place, f in (start, end))
         self.begin(plus(ended, variable("rest")))
         most = [minus(LONGEST, variable("lost"))] if lost else []
@@ -284,7 +295,8 @@ class Xxh3Updates(Cases):
             summary.put_into(cpu, family, self.source, self.secret_source)
         what = what if callable(what) else functools.partial(cpu.call, what)
         try:
-            return self.with_loops(Loops(cpu.program, family, StripesProof), functools.partial(what, *arguments, **more))
+            return self.with_loops(Loops(cpu.program, family, StripesProof),
+                                   functools.partial(what, *arguments, **more))
         finally:
             cpu.replaced = {}
 
@@ -310,14 +322,12 @@ class Xxh3Updates(Cases):
             yield 0, place, []
         if to == "some" and not is_same_number(plus(j, 1), self.q):
             yield n, (b, plus(j, n)), [minus(n, least), minus(minus(self.q, 1), plus(j, n))]
+        turns, of_e = plus(minus(self.q, j), times(self.q, D)), minus(minus(self.q, 1), e)
         if to == "some":
-            left = minus(self.q, j)
-            yield plus(left, times(self.q, D)), (plus(b, 1, D), 0), []
-            yield plus(left, times(self.q, D), e), (plus(b, 1, D), e), [minus(e, 1), minus(minus(self.q, 1), e)]
+            yield turns, (plus(b, 1, D), 0), []
+            yield plus(turns, e), (plus(b, 1, D), e), [minus(e, 1), of_e]
         if to == "many":
-            yield plus(minus(self.q, j), times(self.q, D), e), (plus(b, 1, D), e), [
-                minus(minus(self.q, 1), e), minus(plus(minus(self.q, j), times(self.q, D), e), MANY)]
-        if to == "many":
+            yield plus(turns, e), (plus(b, 1, D), e), [of_e, minus(plus(turns, e), MANY)]
             yield self.within_block(place)
 
     def within_block(self, place):
@@ -330,7 +340,8 @@ class Xxh3Updates(Cases):
         for start in begin:
             for left, of_left in lefts:
                 least = self.whole - 1        # of stripes taken if a chunk doesn't fit in the buffer
-                for n, place, of_n in self.end_of(start.behind, to, max(1, least - start.g) if isinstance(start.g, int) else 1):
+                for n, place, of_n in self.end_of(start.behind, to,
+                                                  max(1, least - start.g) if isinstance(start.g, int) else 1):
                     f = minus(times(64, start.g), start.r)
                     length = plus(start.r, times(64, n), left)
                     facts = [*start.facts, *of_left, *of_n, minus(plus(f, length), self.capacity + 1),
@@ -364,12 +375,13 @@ class Xxh3Updates(Cases):
             few = [*of_g, at_most(h, 63), minus(plus(times(64, g), h), SHORT)]
             yield (0, 0), plus(times(64, g), h, 1), few, [Part((0, 0), g, (0, g))]
         for f in range(1, 65):
-            yield (b, j), f, [minus(plus(times(64, self.stripes((b, j))), f), SHORT + 1), minus(minus(self.q, 1), j)], ()
+            yield ((b, j), f,
+                   [minus(plus(times(64, self.stripes((b, j))), f), SHORT + 1), minus(minus(self.q, 1), j)], ())
         for start in starts(self.whole - 1, True):
             if is_same_number(start.r, 0):
                 f = plus(times(64, start.g), h, 1)
-                more = [minus(plus(times(64, self.stripes(start.place)), f), SHORT + 1), minus(self.stripes(start.place), 1),
-                        at_most(h, 63)]
+                more = [minus(plus(times(64, self.stripes(start.place)), f), SHORT + 1),
+                        minus(self.stripes(start.place), 1), at_most(h, 63)]
                 yield start.place, f, [*start.facts, *more], [Part(start.place, start.g, start.behind)]
 
     def digest(self, place, f, facts, parts, has_seed, width):
@@ -419,7 +431,8 @@ class Xxh3Updates(Cases):
             for memory, cells in zip(records, [expected, [x for *_, x in cells]]):
                 for k, x in enumerate(cells):
                     if not same(memory.load(8 * k, 8), x):
-                        raise NotShown(f"{summary.name}: {memory.name} at {8 * k} is {memory.load(8 * k, 8)} and not {x}")
+                        raise NotShown(f"{summary.name}: {memory.name} at {8 * k} is {memory.load(8 * k, 8)} "
+                                       f"and not {x}")
             self.expect_stack(summary)
 
     def taker(self, summary):
@@ -461,7 +474,8 @@ class Xxh3Updates(Cases):
         """Returns a part of many stripes, from any place to any place of a later block, and its facts."""
         b, j, D, e = (variable(name) for name in "bjDe")
         turns = plus(minus(q, j), times(q, D), e)
-        return Part((b, j), turns, (plus(b, 1, D), e)), [minus(minus(q, 1), j), minus(minus(q, 1), e), minus(turns, MANY)]
+        return Part((b, j), turns, (plus(b, 1, D), e)), [
+            minus(minus(q, 1), j), minus(minus(q, 1), e), minus(turns, MANY)]
 
     def of_any_blocks(self):
         """Yields parts of any number of stripes from any place, with facts."""

@@ -1,7 +1,21 @@
-"""The hashes on terms, from the specification of xxHash. A message and a secret are functions: byte offset and number of
-bytes -> word, the lowest byte first."""
-from .terms import (add, bitwise, constant, cut, join, multiply, product, representative, rotate_left, shift_right,
-                    subtract, swapped, total, widened)
+"""The hashes on terms, from the specification of xxHash. A message and a secret are functions: byte offset and number
+of bytes -> word, the lowest byte first."""
+from .terms import (
+    add,
+    bitwise,
+    constant,
+    cut,
+    join,
+    multiply,
+    product,
+    representative,
+    rotate_left,
+    shift_right,
+    subtract,
+    swapped,
+    total,
+    widened,
+)
 
 P32 = 0, 0x9E3779B1, 0x85EBCA77, 0xC2B2AE3D, 0x27D4EB2F, 0x165667B1
 P64 = 0, 0x9E3779B185EBCA87, 0xC2B2AE3D27D4EB4F, 0x165667B19E3779F9, 0x85EBCA77C2B2AE63, 0x27D4EB2F165667C5
@@ -10,13 +24,14 @@ DEFAULT_SECRET = bytes.fromhex(
     "b8fe6c3923a44bbe7c01812cf721ad1cded46de9839097db7240a4a4b7b3671fcb79e64eccc0e578825ad07dccff7221b8084674f743248e"
     "e03590e6813a264c3c2852bb91c300cb88d0658b1b532ea371644897a20df94e3819ef46a9deacd8a8fa763fe39c343ff9dcbbc7c70b4f1d"
     "8a51e04bcdb45931c89f7ec9d9787364eac5ac8334d3ebc3c581a0fffa1363eb170ddd51b7f0da49d316552629d4689e2b16be587d47a1fc"
-    "8ff8b8d17ad031ce45cb3a8f95160428afd7fbcabb4b407e")
+    "8ff8b8d17ad031ce45cb3a8f95160428afd7fbcabb4b407e"
+)
 INITIAL = P32[3], P64[1], P64[2], P64[3], P64[4], P32[2], P64[5], P32[1]
 R = representative
 
 
 def of_bytes(data):
-    return lambda at, n: constant(int.from_bytes(data[at:at + n], "little"), 8 * n)
+    return lambda at, n: constant(int.from_bytes(data[at : at + n], "little"), 8 * n)
 
 
 def number(value, width=64):
@@ -41,6 +56,7 @@ def plus(*terms):
 
 # ---- XXH32 and XXH64
 
+
 class Plain:
     """XXH32 or XXH64: the width, the primes, and the numbers of bits of its steps."""
 
@@ -53,12 +69,16 @@ class Plain:
         return [R(total(w, [(seed, 1)], c)) for c in (p[1] + p[2], p[2], 0, -p[1])]
 
     def round(self, accumulator, word):
-        return times(R(rotate_left(R(total(self.width, [(accumulator, 1), (word, self.p[2])])), self.round_bits)), self.p[1])
+        return times(
+            R(rotate_left(R(total(self.width, [(accumulator, 1), (word, self.p[2])])), self.round_bits)), self.p[1]
+        )
 
     def stripes(self, accumulators, message, first, count):
         for k in range(count):
-            accumulators = [self.round(x, message(first + k * self.stripe + j * self.word, self.word))
-                            for j, x in enumerate(accumulators)]
+            accumulators = [
+                self.round(x, message(first + k * self.stripe + j * self.word, self.word))
+                for j, x in enumerate(accumulators)
+            ]
         return accumulators
 
     def hash(self, message, n, seed):
@@ -104,6 +124,7 @@ def avalanche_64(h):
 
 # ---- XXH3 of up to 240 bytes
 
+
 def avalanche(h):
     return shifted_xor(times(shifted_xor(h, 37), AVALANCHE), 32)
 
@@ -115,8 +136,10 @@ def folded(a, b):
 
 def mixed(message, at, secret, place, seed):
     """Mixes 16 bytes with 16 bytes of the secret."""
-    return folded(xor(message(at, 8), plus(secret(place, 8), seed)),
-                  xor(message(at + 8, 8), R(subtract(secret(place + 8, 8), seed))))
+    return folded(
+        xor(message(at, 8), plus(secret(place, 8), seed)),
+        xor(message(at + 8, 8), R(subtract(secret(place + 8, 8), seed))),
+    )
 
 
 def with_swapped(seed):
@@ -150,7 +173,11 @@ def short_64(message, n, secret, seed):
     h = number(n * P64[1])
     if n <= 128:
         for i in range((n - 1) // 32, -1, -1):
-            h = plus(h, mixed(message, 16 * i, secret, 32 * i, seed), mixed(message, n - 16 * (i + 1), secret, 32 * i + 16, seed))
+            h = plus(
+                h,
+                mixed(message, 16 * i, secret, 32 * i, seed),
+                mixed(message, n - 16 * (i + 1), secret, 32 * i + 16, seed),
+            )
         return avalanche(h)
     h = avalanche(plus(h, *(mixed(message, 16 * i, secret, 16 * i, seed) for i in range(8))))
     rest = [mixed(message, 16 * i, secret, 16 * (i - 8) + 3, seed) for i in range(8, n // 16)]
@@ -163,8 +190,10 @@ def short_128(message, n, secret, seed):
     if n <= 3:
         low = of_three(message, n)
         high = rotate_left(swapped(low), 13)
-        return [avalanche_64(xor(widened(low, 64), plus(widened(pair(secret, 0, 4), 64), seed))),
-                avalanche_64(xor(widened(high, 64), R(subtract(widened(pair(secret, 8, 4), 64), seed))))]
+        return [
+            avalanche_64(xor(widened(low, 64), plus(widened(pair(secret, 0, 4), 64), seed))),
+            avalanche_64(xor(widened(high, 64), R(subtract(widened(pair(secret, 8, 4), 64), seed)))),
+        ]
     if n <= 8:
         word = xor(join(message(0, 4), message(n - 4, 4)), plus(pair(secret, 16), with_swapped(seed)))
         low, high = map(R, product(word, number(P64[1] + (n << 2))))
@@ -180,7 +209,7 @@ def short_128(message, n, secret, seed):
     else:
         for i in range(4):
             sums = mixed_32(sums, message, 32 * i, 32 * i + 16, secret, 32 * i, seed)
-        sums = [avalanche(x) for x in sums]
+        sums = avalanche(sums[0]), avalanche(sums[1])
         for i in range(4, n // 32):
             sums = mixed_32(sums, message, 32 * i, 32 * i + 16, secret, 3 + 32 * (i - 4), seed)
         sums = mixed_32(sums, message, n - 16, n - 32, secret, 136 - 17 - 16, subtract(number(0), seed))
@@ -209,6 +238,7 @@ def mixed_32(sums, message, a, b, secret, place, seed):
 
 # ---- XXH3 of more bytes
 
+
 def accumulate(accumulators, message, at, secret, place):
     out = list(accumulators)
     for i in range(8):
@@ -236,8 +266,18 @@ def stripes(accumulators, message, count, secret, size, first=0):
 
 
 def merged(accumulators, secret, place, start):
-    return avalanche(plus(start, *(folded(xor(accumulators[2 * i], secret(place + 16 * i, 8)),
-                                          xor(accumulators[2 * i + 1], secret(place + 16 * i + 8, 8))) for i in range(4))))
+    return avalanche(
+        plus(
+            start,
+            *(
+                folded(
+                    xor(accumulators[2 * i], secret(place + 16 * i, 8)),
+                    xor(accumulators[2 * i + 1], secret(place + 16 * i + 8, 8)),
+                )
+                for i in range(4)
+            )
+        )
+    )
 
 
 def ended(accumulators, message, n, secret, size, width):

@@ -1,7 +1,22 @@
 """The instructions of the second engine's processor, by their mnemonics in objdump's text."""
+from typing import Callable
+
 from .machine import LANES, Processor, Refused, width_of
-from .terms import (add, bitwise, constant, cut, join, multiply, product, rotate_left, shift_left, shift_right, subtract, swapped,
-                    widened)
+from .terms import (
+    add,
+    bitwise,
+    constant,
+    cut,
+    join,
+    multiply,
+    product,
+    rotate_left,
+    shift_left,
+    shift_right,
+    subtract,
+    swapped,
+    widened,
+)
 
 SCALARS, VECTORS = {}, {}
 
@@ -10,10 +25,12 @@ def of(table, names):
     def put(function):
         table.update(dict.fromkeys(names.split(), function))
         return function
+
     return put
 
 
 # ---- words
+
 
 @of(SCALARS, "mov movabs movq movl movb movw movzbl movzwl movbe")
 def move(cpu, mnemonic, operands, target):
@@ -44,8 +61,15 @@ def on_stack(cpu, mnemonic, operands, _):
         cpu.put(operands[0], cpu.pop())
 
 
-BINARY = {"add": add, "sub": subtract, "cmp": subtract, "and": lambda a, b: bitwise("and", a, b), "or": lambda a, b: bitwise("or", a, b),
-          "xor": lambda a, b: bitwise("xor", a, b), "test": lambda a, b: bitwise("and", a, b)}
+BINARY: dict[str, Callable] = {
+    "add": add,
+    "sub": subtract,
+    "cmp": subtract,
+    "and": lambda a, b: bitwise("and", a, b),
+    "or": lambda a, b: bitwise("or", a, b),
+    "xor": lambda a, b: bitwise("xor", a, b),
+    "test": lambda a, b: bitwise("and", a, b),
+}
 
 
 @of(SCALARS, " ".join(f"{name}{size}" for name in BINARY for size in ("", "b", "w", "l", "q")))
@@ -77,7 +101,9 @@ def shift(cpu, mnemonic, operands, target):
     width = width_of(mnemonic, operands[-1:])
     by = cpu.number(cpu.get(operands[0], 8)) % width if len(operands) > 1 else 1
     x = cpu.get(operands[-2] if mnemonic == "rorx" else operands[-1], width, target)
-    result = {"shl": shift_left, "shr": shift_right, "rol": rotate_left}.get(mnemonic, lambda x, k: rotate_left(x, -k))(x, by)
+    result = {"shl": shift_left, "shr": shift_right, "rol": rotate_left}.get(mnemonic, lambda x, k: rotate_left(x, -k))(
+        x, by
+    )
     cpu.flags = ("shift", None, None, result) if mnemonic in ("shl", "shr") else None
     cpu.put(operands[-1], result, target)
 
@@ -95,8 +121,11 @@ def double_shift(cpu, mnemonic, operands, target):
 def multiplied(cpu, mnemonic, operands, target):
     width = width_of(mnemonic, operands)
     if mnemonic == "div":
-        whole = cpu.number(cpu.registers["rax"]) + (cpu.number(cpu.registers["rdx"]) << 64) if width == 64 else \
-            cpu.number(cut(cpu.registers["rax"], 0, 32)) + (cpu.number(cut(cpu.registers["rdx"], 0, 32)) << 32)
+        whole = (
+            cpu.number(cpu.registers["rax"]) + (cpu.number(cpu.registers["rdx"]) << 64)
+            if width == 64
+            else cpu.number(cut(cpu.registers["rax"], 0, 32)) + (cpu.number(cut(cpu.registers["rdx"], 0, 32)) << 32)
+        )
         quotient, rest = divmod(whole, cpu.number(cpu.get(operands[0], width, target)))
         cpu.registers |= {"rax": constant(quotient, 64), "rdx": constant(rest, 64)}
     elif mnemonic == "mul" and width == 64:
@@ -127,6 +156,7 @@ def by_condition(cpu, mnemonic, operands, target):
 
 # ---- vectors
 
+
 def count_of(operands):
     return max(LANES[x[1]] for x in operands if x[0] == "%" and x[1:4] in ("xmm", "ymm", "zmm"))
 
@@ -139,9 +169,17 @@ def of_low_halves(a, b):
     return multiply(widened(cut(a, 0, 32), 64), widened(cut(b, 0, 32), 64))
 
 
-LANEWISE = {"paddq": add, "psubq": subtract, "pxor": BINARY["xor"], "xorps": BINARY["xor"], "pxorq": BINARY["xor"],
-            "pmuludq": of_low_halves, "pmulld": in_halves(multiply), "paddd": in_halves(add),
-            "pmullq": multiply}
+LANEWISE = {
+    "paddq": add,
+    "psubq": subtract,
+    "pxor": BINARY["xor"],
+    "xorps": BINARY["xor"],
+    "pxorq": BINARY["xor"],
+    "pmuludq": of_low_halves,
+    "pmulld": in_halves(multiply),
+    "paddd": in_halves(add),
+    "pmullq": multiply,
+}
 
 
 @of(VECTORS, " ".join(f"{v}{name}{b}" for v in ("", "v") for name in LANEWISE for b in ("", "{1to8}")))
@@ -198,8 +236,11 @@ def shuffle(cpu, mnemonic, operands, target):
 def shuffle_two(cpu, mnemonic, operands, target):
     """Takes two words of the first source, which is written last, and two of the second."""
     by, (second, first) = int(operands[0][1:], 16), (cpu.lanes(x, count_of(operands), target) for x in operands[1:3])
-    parts = [cut(lanes[k // 2], 32 * (k % 2), 32) for lanes, places in ((first, (0, 2)), (second, (4, 6)))
-             for k in (by >> place & 3 for place in places)]
+    parts = [
+        cut(lanes[k // 2], 32 * (k % 2), 32)
+        for lanes, places in ((first, (0, 2)), (second, (4, 6)))
+        for k in (by >> place & 3 for place in places)
+    ]
     if len(first) != 2:
         raise Refused(f"{mnemonic} of {len(first)} lanes")
     cpu.put_lanes(operands[-1], [join(*parts[:2]), join(*parts[2:])], False)
@@ -209,21 +250,23 @@ def shuffle_two(cpu, mnemonic, operands, target):
 def unpack(cpu, mnemonic, operands, target):
     count, at = count_of(operands), int("hqdq" in mnemonic)
     second, first = (cpu.lanes(x, count, target) for x in operands[:2])
-    cpu.put_lanes(operands[-1], [x for k in range(0, count, 2) for x in (first[k + at], second[k + at])], mnemonic[0] != "v")
+    cpu.put_lanes(
+        operands[-1], [x for k in range(0, count, 2) for x in (first[k + at], second[k + at])], mnemonic[0] != "v"
+    )
 
 
 @of(VECTORS, "vextracti128 vextractf128 vextracti64x4")
 def extract_half(cpu, mnemonic, operands, target):
     half = 2 if mnemonic.endswith("128") else 4
     at = half * (int(operands[0][1:], 16) & 1)
-    cpu.put_lanes(operands[2], cpu.lanes(operands[1], 2 * half)[at:at + half], False, target)
+    cpu.put_lanes(operands[2], cpu.lanes(operands[1], 2 * half)[at : at + half], False, target)
 
 
 @of(VECTORS, "vinserti64x4 vinserti128")
 def insert_half(cpu, mnemonic, operands, target):
     half = 2 if mnemonic.endswith("128") else 4
     whole, at = cpu.lanes(operands[2], 2 * half), half * (int(operands[0][1:], 16) & 1)
-    cpu.put_lanes(operands[3], whole[:at] + cpu.lanes(operands[1], half, target) + whole[at + half:])
+    cpu.put_lanes(operands[3], whole[:at] + cpu.lanes(operands[1], half, target) + whole[at + half :])
 
 
 @of(VECTORS, "movd vmovd")
@@ -273,7 +316,9 @@ def shuffle_bytes(cpu, mnemonic, operands, target):
     chosen, lanes = cpu.lanes(operands[0], count, target), cpu.lanes(operands[1], count)
     found = []
     for k in range(0, count, 2):
-        numbers, whole = [cpu.number(cut(x, 8 * j, 8)) for x in chosen[k:k + 2] for j in range(8)], join(*lanes[k:k + 2])
+        numbers, whole = [cpu.number(cut(x, 8 * j, 8)) for x in chosen[k : k + 2] for j in range(8)], join(
+            *lanes[k : k + 2]
+        )
         parts = [constant(0, 8) if at & 128 else cut(whole, 8 * (at & 15), 8) for at in numbers]
         found += [join(*parts[:8]), join(*parts[8:])]
     cpu.put_lanes(operands[-1], found, mnemonic[0] != "v")

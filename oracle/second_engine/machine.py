@@ -43,7 +43,7 @@ class Code:
         section = None
         for line in printed(path, "-drwz"):
             if line.startswith("Disassembly of section "):
-                section = line[len("Disassembly of section "):-1]
+                section = line[len("Disassembly of section ") : -1]
             elif match := LINE.match(line):
                 self.read(section, *match.groups())
 
@@ -57,7 +57,7 @@ class Code:
         name = None
         for line in printed(path, "-s"):
             if line.startswith("Contents of section "):
-                name = line[len("Contents of section "):-1]
+                name = line[len("Contents of section ") : -1]
                 name = name if name.startswith(".rodata") else None
             elif name and (match := re.match(r" ([0-9a-f]+) ((?:[0-9a-f]+ )+)", line[:43] + " ")):
                 self.constants[name] = self.constants.get(name, b"") + bytes.fromhex(match[2].replace(" ", ""))
@@ -77,9 +77,17 @@ class Code:
             name, offset = self.symbols.get(moved[2], (moved[2], 0))
             target = name, offset + int(moved[3] or "0", 16) + end - int(moved[1], 16)
         broadcast = re.search(r"\{1to\d+\}", operands)
-        parts = [x.strip() for x in re.split(r",(?![^(]*\))", operands.replace(broadcast[0] if broadcast else "{", "")) if x.strip()]
-        self.at[section, at] = (section, end), mnemonic + (broadcast[0] if broadcast else ""), \
-            [] if mnemonic.startswith("nop") else parts, target
+        parts = [
+            x.strip()
+            for x in re.split(r",(?![^(]*\))", operands.replace(broadcast[0] if broadcast else "{", ""))
+            if x.strip()
+        ]
+        self.at[section, at] = (
+            (section, end),
+            mnemonic + (broadcast[0] if broadcast else ""),
+            [] if mnemonic.startswith("nop") else parts,
+            target,
+        )
 
 
 def printed(path, option):
@@ -87,13 +95,18 @@ def printed(path, option):
 
 
 class Processor:
-    tables = ()                   # of functions by mnemonics; instructions.py sets them
+    tables: tuple[dict, ...] = ()  # of functions by mnemonics; instructions.py sets them
 
     def __init__(self, code, read_only=(), writable=()):
         """`read_only` and `writable` map addresses to terms: the bytes from there on."""
         self.code, self.bytes, self.writable = code, {}, []
-        for at, x in [*read_only, *((code.places[name], constant(int.from_bytes(data, "little"), 8 * len(data)))
-                                    for name, data in code.constants.items())]:
+        for at, x in [
+            *read_only,
+            *(
+                (code.places[name], constant(int.from_bytes(data, "little"), 8 * len(data)))
+                for name, data in code.constants.items()
+            ),
+        ]:
             self.put_bytes(at, x)
         for at, x in writable:
             self.put_bytes(at, x)
@@ -139,7 +152,9 @@ class Processor:
 
     def store(self, at, x):
         end = at + x.width // 8
-        if not (STACK - STACK_BYTES <= at and end <= STACK) and not any(first <= at and end <= last for first, last in self.writable):
+        if not (STACK - STACK_BYTES <= at and end <= STACK) and not any(
+            first <= at and end <= last for first, last in self.writable
+        ):
             raise Refused(f"a store at {at:#x}")
         self.put_bytes(at, x)
 
@@ -176,7 +191,13 @@ class Processor:
             name, width = NAMES[text[1:]]
             old = self.registers[name]
             x = cut(x, 0, width)
-            self.registers[name] = representative(x) if width == 64 else widened(x, 64) if width == 32 else join(x, cut(old, width, 64 - width))
+            self.registers[name] = (
+                representative(x)
+                if width == 64
+                else widened(x, 64)
+                if width == 32
+                else join(x, cut(old, width, 64 - width))
+            )
         else:
             self.store(self.number(self.address(text, target)), x)
 
@@ -204,7 +225,7 @@ class Processor:
         lanes = [representative(x) for x in lanes]
         if text[0] == "%":
             old = self.vectors.get(int(text[4:]), [None] * 8)
-            above = old[len(lanes):] if is_old else [constant(0, 64)] * (8 - len(lanes))
+            above = old[len(lanes) :] if is_old else [constant(0, 64)] * (8 - len(lanes))
             self.vectors[int(text[4:])] = lanes + above
         else:
             at = self.number(self.address(text, target))
@@ -223,8 +244,11 @@ class Processor:
             return (not self.number(result)) == (name == "e")
         if op == "step" or op == "shift":
             raise Refused("a carry that isn't set")
-        below = {"sub": lambda: self.number(a) < self.number(b), "logic": lambda: False,
-                 "add": lambda: self.number(a) + self.number(b) > ones(a.width)}[op]()
+        below = {
+            "sub": lambda: self.number(a) < self.number(b),
+            "logic": lambda: False,
+            "add": lambda: self.number(a) + self.number(b) > ones(a.width),
+        }[op]()
         if name in ("b", "ae"):
             return below == (name == "b")
         if name in ("a", "be"):
@@ -261,7 +285,9 @@ class Processor:
     def outer(self, name):
         to, source, n = (self.registers[r] for r in ARGUMENTS[:3])
         to, n = self.number(to), self.number(n)
-        copied = [cut(source, 0, 8)] * n if name == "memset" else [self.load(self.number(source) + k, 1) for k in range(n)]
+        copied = (
+            [cut(source, 0, 8)] * n if name == "memset" else [self.load(self.number(source) + k, 1) for k in range(n)]
+        )
         if n and name != "memset":
             copied = [self.load(self.number(source), n)]
         for k, x in enumerate(copied):

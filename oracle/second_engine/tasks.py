@@ -6,12 +6,12 @@ from .hashes import Plain, of_bytes
 from .machine import OBJECTS, Processor
 from .terms import constant, cut, expect_equal, join, variable, widened
 
-assert instructions                                      # imported because it fills the processor's tables
+assert instructions  # imported because it fills the processor's tables
 MESSAGE, SECRET, STATE = OBJECTS, OBJECTS + (1 << 32), OBJECTS + (2 << 32)
 NAMES = {"32": "XXH32", "64": "XXH64", "3-64": "XXH3_64bits", "3-128": "XXH3_128bits"}
 WAYS = {"default": "", "seed": "_withSeed", "secret": "_withSecret", "both": "_withSecretandSeed"}
 ALGORITHMS = [("32", "seed"), ("64", "seed"), *((name, way) for name in ("3-64", "3-128") for way in WAYS)]
-STATE_BYTES = {"32": 64, "64": 128, "3": 1024}            # upper bounds of the sizes of states
+STATE_BYTES = {"32": 64, "64": 128, "3": 1024}  # upper bounds of the sizes of states
 
 
 def word_of(x):
@@ -115,16 +115,19 @@ class Calls:
         return word_of(whole)
 
     def xxh3_step(self, name, n):
-        """Compares an update of n bytes, from any accumulators, with the stripes that the definition takes, and the digest
-        with the definition's end."""
+        """Compares an update of n bytes, from any accumulators, with the stripes that the definition takes, and the
+        digest with the definition's end."""
         terms.begin(False)
         places = self.places(name, None, [constant(x, 64) for x in hashes.INITIAL])
         cpu, _ = self.started(name, None)
         before = [variable(f"accumulator {k}", 64) for k in range(8)]
         message, secret = self.updated(cpu, name, places, before, n), of_bytes(hashes.DEFAULT_SECRET)
         found = [cpu.load(STATE + at, 8) for at in places]
-        counts = [k for k in range(n // 64 + 1)
-                  if all(x.values == y.values for x, y in zip(found, hashes.stripes(before, message, k, secret, 192)))]
+        counts = [
+            k
+            for k in range(n // 64 + 1)
+            if all(x.values == y.values for x, y in zip(found, hashes.stripes(before, message, k, secret, 192)))
+        ]
         if len(counts) != 1 or not counts[0]:
             raise terms.Differs(f"{NAMES[name]}_update of {n} bytes takes another number of stripes")
         for ours, theirs in zip(found, hashes.stripes(before, message, counts[0], secret, 192)):
@@ -138,6 +141,7 @@ class Calls:
 
 # ---- the specification and the reference library's results
 
+
 def value_of(fields, message, secret):
     """Returns the definition's value for a line of oracle/vectors.txt."""
     name, seed, _, n = fields[0], fields[1], fields[2], int(fields[3])
@@ -146,21 +150,25 @@ def value_of(fields, message, secret):
         return [Plain(int(name)).hash(message, n, number)]
     if secret is None:
         return Calls.definition(name, "default" if number is None else "seed", n, message, number, None, 192)
-    return Calls.definition(name, "secret" if number is None else "both", n, message, number, of_bytes(secret), len(secret))
+    return Calls.definition(
+        name, "secret" if number is None else "both", n, message, number, of_bytes(secret), len(secret)
+    )
 
 
 def generated(start, length):
     """Returns the bytes of a test case, as defined in oracle/vectors.c."""
     out, x = bytearray(), start
     for _ in range(length):
-        x = (x * 6364136223846793005 + 1442695040888963407) % 2 ** 64
+        x = (x * 6364136223846793005 + 1442695040888963407) % 2**64
         out.append(x >> 56)
     return bytes(out)
 
 
 def compare_vectors(each, longest):
     """Compares the definitions with every `each`-th result of the reference library, up to some length."""
-    with open(os.path.join(os.path.dirname(os.path.dirname(os.path.abspath(__file__))), "vectors.txt"), encoding="utf-8") as file:
+    with open(
+        os.path.join(os.path.dirname(os.path.dirname(os.path.abspath(__file__))), "vectors.txt"), encoding="utf-8"
+    ) as file:
         lines = [line.split() for line in file if line[0] != "#"]
     asked = [fields for fields in lines if int(fields[3]) <= longest][::each]
     for fields in asked:

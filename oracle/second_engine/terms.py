@@ -4,16 +4,21 @@ points, z3 decides whether they are equal; what lies deeper is a variable then."
 import random
 import sys
 
-sys.path.append("/usr/lib/python3/dist-packages")        # Debian's z3, also for another Python
+sys.path.append("/usr/lib/python3/dist-packages")  # Debian's z3, also for another Python
 import z3
 
-POINTS, LEVELS, EFFORT = 4, (1, 2, 3, 5), 1_000_000    # levels of terms given to z3, one after another; its limit
-HALF = 32, 64                     # the half of a word of 64 bits
+POINTS, LEVELS, EFFORT = 4, (1, 2, 3, 5), 1_000_000  # levels of terms given to z3, one after another; its limit
+HALF = 32, 64  # the half of a word of 64 bits
 RNG = random.Random(20)
 
 
 class Term:
     __slots__ = "op", "parts", "width", "values", "number"
+    op: str
+    parts: tuple
+    width: int
+    values: tuple[int, ...]
+    number: int
 
 
 class Differs(Exception):
@@ -21,7 +26,7 @@ class Differs(Exception):
 
 
 table, by_values, asked = {}, {}, []
-uncut = {HALF}                     # whose lower half stays one, since its upper half may join it again, as in a scramble
+uncut = {HALF}  # whose lower half stays one, since its upper half may join it again, as in a scramble
 
 
 def begin(is_cut):
@@ -54,7 +59,11 @@ def constant(value, width):
 
 def variable(name, width):
     key = "variable", width, (name,)
-    return table[key] if key in table else new_term("variable", width, [RNG.getrandbits(width) for _ in range(POINTS)], name)
+    return (
+        table[key]
+        if key in table
+        else new_term("variable", width, [RNG.getrandbits(width) for _ in range(POINTS)], name)
+    )
 
 
 def checked(x, width, values):
@@ -68,6 +77,7 @@ def at_points(operation, *terms):
 
 
 # ---- parts of words
+
 
 def cut(x, first, n):
     """Returns bits first .. first + n - 1."""
@@ -105,8 +115,12 @@ def join(*parts):
         last = flat[-1] if flat else None
         if last is not None and last.op == x.op == "constant":
             flat[-1] = constant(last.parts[0] | x.parts[0] << last.width, last.width + x.width)
-        elif last is not None and last.op == x.op == "cut" and last.parts[0] is x.parts[0] \
-                and last.parts[1] + last.width == x.parts[1]:
+        elif (
+            last is not None
+            and last.op == x.op == "cut"
+            and last.parts[0] is x.parts[0]
+            and last.parts[1] + last.width == x.parts[1]
+        ):
             flat[-1] = cut_of(x.parts[0], last.parts[1], last.width + x.width)
         else:
             flat.append(x)
@@ -207,8 +221,8 @@ def beside(a, b):
         for part in x.parts if x.op == "join" else (x,):
             edges.add(at)
             at += part.width
-    edges, out = sorted(edges), []
-    for low, high in zip(edges, edges[1:]):
+    ends, out = sorted(edges), []
+    for low, high in zip(ends, ends[1:]):
         x, y = cut(a, low, high - low), cut(b, low, high - low)
         zero = constant(0, high - low)
         if x is not zero and y is not zero:
@@ -246,7 +260,7 @@ def summands(x):
         yield None, x.parts[0]
         yield from zip(x.parts[1::2], x.parts[2::2])
     elif x.op == "join" and len(x.parts) == 2 and x.parts[0] is constant(0, x.parts[0].width):
-        for y, d in summands(x.parts[1]):      # a word that is shifted: the bits above don't matter
+        for y, d in summands(x.parts[1]):  # a word that is shifted: the bits above don't matter
             yield y and widened(y, x.width), d << x.parts[0].width
     else:
         yield x, 1
@@ -254,9 +268,13 @@ def summands(x):
 
 def united(flat, width):
     """Replaces c * low + (c << 32) * high, of halves of 64 bits, by c times the word of both."""
-    halves = {y: c for y, c in flat.values() if c and width == 64 and y.op == "join" and cut(y, 32, 32) is constant(0, 32)}
+    halves = {
+        y: c for y, c in flat.values() if c and width == 64 and y.op == "join" and cut(y, 32, 32) is constant(0, 32)
+    }
     for low, c in halves.items():
-        high = next((y for y, d in halves.items() if y is not low and d == c << 32 & ones(64) and flat[y.number][1]), None)
+        high = next(
+            (y for y, d in halves.items() if y is not low and d == c << 32 & ones(64) and flat[y.number][1]), None
+        )
         if high and flat[low.number][1]:
             flat[low.number], flat[high.number] = (low, 0), (high, 0)
             whole = representative(join(cut(low, 0, 32), cut(high, 0, 32)))
@@ -286,6 +304,7 @@ def product(a, b):
 
 
 # ---- equality
+
 
 def representative(x):
     """Returns the first known term that equals this one, as z3 shows, or this one."""
@@ -324,7 +343,7 @@ def in_z3(x, level, names):
             out += in_z3(part, level - 1, names) * z3.BitVecVal(c, x.width)
         return out
     parts = [in_z3(part, level - 1, names) for part in x.parts]
-    if x.op == "product":       # any function of two words
+    if x.op == "product":  # any function of two words
         word = z3.BitVecSort(x.width)
         return z3.Function(f"product{x.width}", word, word, word)(*parts)
     out = parts[0]

@@ -3,8 +3,8 @@ from . import comparison, every_length, header_calls as calls, plain_streams, xx
 from .reference import FORMS, of_reference
 from .refusals import NotShown
 
-SHORT = {"32": 16, "64": 32, "3-64": 241, "3-128": 241}      # lengths below, one by one
-DERIVED = "default", "seed"              # functions whose short inputs the induction over lengths leaves out
+SHORT = {"32": 16, "64": 32, "3-64": 241, "3-128": 241}  # lengths below, one by one
+DERIVED = "default", "seed"  # functions whose short inputs the induction over lengths leaves out
 # Forms whose short inputs, and whose plain hashes, have code of their own.
 OF_SHORT, OF_PLAIN = ("scalar", "halves", "bytes"), ("scalar", "bytes")
 # The forms of CI for streams of XXH3, by the place of the secret.
@@ -12,12 +12,13 @@ STREAMS = {"outside": "avx2", "inside": "scalar"}
 # Sizes of secrets generated from custom seeds of every length; and of 0 to 240 bytes: the first and the last size, the
 # first length, and the step between lengths.
 LONG_SEEDS, SHORT_SEEDS = ("136", "143", "144 192", "241"), ("136 136 0 1", "137 160 0 11", "161 300 7 60")
-SOME_SHORT_SEEDS = "136 137 0 29", "143 143 5 67"            # in CI, which leaves out the others
+SOME_SHORT_SEEDS = "136 137 0 29", "143 143 5 67"  # in CI, which leaves out the others
 # Functions of which CI compares only the plain form with every length: the others share all code but the kernel's.
 OF_PLAIN_FORM = "3-64:both", "3-128:secret"
 
 
 # ---- short inputs
+
 
 def short_algorithms():
     yield from (("32", "seed"), ("64", "seed"))
@@ -35,6 +36,7 @@ def short(module, algorithm):
 
 
 # ---- the proofs: (title, function of a module and a kind, kind, form)
+
 
 def proofs(is_all):
     """Returns the proofs of all values, and of refusals."""
@@ -77,7 +79,10 @@ def of_hashes(is_all):
         for algorithm in every_length.ALGORITHMS:
             is_in_ci = form == "scalar" or algorithm not in OF_PLAIN_FORM
             if (is_all or is_in_ci) and (algorithm.startswith("3-") or form in OF_PLAIN):
-                title = f"XXH{algorithm.replace(':', ', ')}: every length from {every_length.shortest(algorithm)} to 2^64 - 1"
+                title = (
+                    f"XXH{algorithm.replace(':', ', ')}: every length from "
+                    f"{every_length.shortest(algorithm)} to 2^64 - 1"
+                )
                 yield title, every_length.show, algorithm, form
         for algorithm in ("32", "64") if form in OF_PLAIN else ():
             yield f"XXH{algorithm}, streams: any updates, to 2^64 - 1 bytes", plain_streams.show, algorithm, form

@@ -1,4 +1,6 @@
 """Compares both sides for one length after another: for all bytes, all seeds and all bytes of a secret."""
+from typing import Any
+
 from . import definition, nodes
 from .refusals import REFUSALS
 from .requests import Request, differing_point
@@ -6,10 +8,10 @@ from .nodes import WrongRule
 
 MOST_NODES = 1_500_000
 SECRETS = 136, 137, 143, 144, 192, 256
-PLAIN = [("32", "seed", None), ("64", "seed", None)]
+PLAIN: list[tuple[str, str, Any]] = [("32", "seed", None), ("64", "seed", None)]
 EDGES_FROM, LONGEST = 1101, 10_241
 
-def algorithms(secrets):
+def algorithms(secrets) -> list[tuple[str, str, Any]]:
     """Returns the algorithms: (hash, variant, length of the secret)."""
     of_secret = [(way, n) for way in ("secret", "both") for n in secrets]
     ways = [("default", None), ("seed", None), *of_secret]

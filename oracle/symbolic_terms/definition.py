@@ -4,8 +4,7 @@ This module extends antt.py with subtraction of symbolic numbers, messages as li
 of calls in a recursion."""
 import functools
 
-from oracle import antt
-from oracle import specs
+from oracle import antt, specs
 
 from . import operations
 from .nodes import WrongRule, is_same, memo
@@ -97,8 +96,9 @@ class Suppositions:
         self.values, self.next, self.alive, self.depth = {}, [], [], 0
 
     def clear(self):
-        for known in (self.values, self.next, self.alive):
-            known.clear()
+        self.values.clear()
+        self.next.clear()
+        self.alive.clear()
 
     def suppose(self, call, values):
         """Assumes the values of call(0), call(1), ..: each must reach exactly one call of a recursion."""

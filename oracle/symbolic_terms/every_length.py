@@ -3,6 +3,8 @@
 A length is a polynomial. XXH32 and XXH64: n = stripe * a + r, r a number. XXH3 above 240 bytes: n = 64 q B + 64 J + t +
 1, B blocks of q stripes, J < q stripes of the last block, t < 64. A custom secret has 64 + 8 q + u bytes, q >= 9, u <
 8. Without one, the call of the function for long inputs is checked."""
+from typing import Any
+
 from . import definition, nodes
 from .definition import Bytes, suppositions
 from .header_names import names_of
@@ -14,8 +16,8 @@ from .nodes import Node, symbol
 from .operations import side_by_side
 from .polynomials import agree, at_most, divided, given, is_same_number, minus, plus, Poly, times, variable
 
-SHORTEST_SECRET_STRIPES = 9        # stripes of a block, with a secret of 136 bytes
-DEFAULT_SECRET, DEFAULT_STRIPES = 192, 16     # its bytes, and the stripes of a block with it
+SHORTEST_SECRET_STRIPES = 9  # stripes of a block, with a secret of 136 bytes
+DEFAULT_SECRET, DEFAULT_STRIPES = 192, 16  # its bytes, and the stripes of a block with it
 WAYS = "default", "seed", "seed 0", "secret", "both"
 OWN_SECRET = "secret", "both"
 XXH3 = "3-64", "3-128"
@@ -74,8 +76,15 @@ class Proof:
         with given(minus(turns, 1), at_most(n, LONGEST)):
             source = Input("m", n)
             message = Bytes(source, 0, n)
-            describe = plain_loop(self.names, f"XXH{width} of {n} bytes", self.texts[f"Xxh{width}.accumulator"], seed,
-                                  message, minus(turns, 1), width)
+            describe = plain_loop(
+                self.names,
+                f"XXH{width} of {n} bytes",
+                self.texts[f"Xxh{width}.accumulator"],
+                seed,
+                message,
+                minus(turns, 1),
+                width,
+            )
             self.prepare({name.format(width): describe for name in self.names.plain_loops})
             ours = self.module.call(f"@once_{width}_seed", [(source, 0), n, seed])
             self.expect(f"XXH{width} of {n} bytes", ours, self.texts[f"xxh{width}"](seed, message))
@@ -159,7 +168,7 @@ class Proof:
     def watch(self, name, runs):
         """Records the arguments and the value of each call of a function. It runs, or returns symbols."""
         function = self.module.functions[name]
-        self.called = None
+        self.called: Any = None
 
         def call(arguments):
             if runs:
@@ -172,6 +181,7 @@ class Proof:
             whole = side_by_side(*((half, 64) for half in value)) if "128" in name else value
             self.called = [*arguments[:4], whole]
             return value
+
         self.module.instead[name] = call
 
     def expect(self, what, ours, theirs):
@@ -183,21 +193,35 @@ class Proof:
 def plain_loop(names, name, accumulator, seed, message, last, width, first=0, cells=None):
     """Returns a function that describes the loop over stripes: after k iterations the accumulators are the words after
     first + k stripes. They are in `cells`, in an array, or in four variables."""
+
     def after(k):
         return lambda j: accumulator(seed, message, j, plus(first, k))
 
     def describe(function, registers):
         array, variables = registers.get(names.plain_array), [registers.get(x) for x in names.plain_variables]
         own = cells or ([(array[0], array[1] + width // 8 * j) for j in range(4)] if array else variables)
-        return Loop(name, last, own, width, lambda k, values: suppositions.suppose(after(k), values),
-                    lambda k: [after(k)(j) for j in range(4)])
+        return Loop(
+            name,
+            last,
+            own,
+            width,
+            lambda k, values: suppositions.suppose(after(k), values),
+            lambda k: [after(k)(j) for j in range(4)],
+        )
+
     return describe
 
 
 def xxh3_loop(after, name, last, cells, place):
     """Describes a loop of XXH3: after k iterations the accumulators are the words after place(k) stripes."""
-    return Loop(name, last, cells, 64, lambda k, values: suppositions.suppose(lambda i: after(i, place(k)), values),
-                lambda k: [after(i, place(k)) for i in range(8)])
+    return Loop(
+        name,
+        last,
+        cells,
+        64,
+        lambda k, values: suppositions.suppose(lambda i: after(i, place(k)), values),
+        lambda k: [after(i, place(k)) for i in range(8)],
+    )
 
 
 def cells_at(address):
@@ -207,6 +231,7 @@ def cells_at(address):
 def long_loops(names, accumulator_after, q, B, J, secret, message):
     """Describes the loop over blocks, and the one over a block's stripes if their number is symbolic. The definition
     scrambles with the last stripe of a block, the library after it, so that stripe is the loop's last iteration."""
+
     def after(i, k):
         return accumulator_after(secret, message, i, k)
 
@@ -214,12 +239,18 @@ def long_loops(names, accumulator_after, q, B, J, secret, message):
         return xxh3_loop(after, "blocks", B, cells_at(registers[names.block_array]), lambda k: times(q, k))
 
     def stripes(function, registers):
-        turns = registers.get(names.count)
+        turns = registers.get(names.stripe_count)
         if not isinstance(turns, Poly):
             return None
         first, is_whole = divided(registers[names.input][1], 64)[0], is_same_number(turns, q)
-        return xxh3_loop(after, "stripes of a block" if is_whole else "stripes of the last block",
-                         minus(q, 1) if is_whole else J, cells_at(registers[names.array]), lambda k: plus(first, k))
+        return xxh3_loop(
+            after,
+            "stripes of a block" if is_whole else "stripes of the last block",
+            minus(q, 1) if is_whole else J,
+            cells_at(registers[names.array]),
+            lambda k: plus(first, k),
+        )
+
     return {names.blocks: blocks, names.stripes: stripes}
 
 

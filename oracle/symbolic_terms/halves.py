@@ -13,7 +13,7 @@ from . import operations, rules
 from .nodes import Node, WrongRule, is_same, memo, most_of, use
 
 WORD, HALF = 64, 32
-givers = memo()      # number of a node -> the 64-bit operations that produced it: (name, a, b)
+givers = memo()  # number of a node -> the 64-bit operations that produced it: (name, a, b)
 
 
 def noted(name, a, b, answer):

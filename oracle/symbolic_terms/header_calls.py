@@ -17,11 +17,11 @@ from .requests import LONGEST, seed_symbol
 OK, ERROR = 0, 1
 VERSION = 801
 WIDTHS = "64", "128"
-ALGORITHMS = {"XXH32": 48, "XXH64": 88, "XXH3": 576}       # bytes of a state
+ALGORITHMS = {"XXH32": 48, "XXH64": 88, "XXH3": 576}  # bytes of a state
 CANONICAL = {"XXH32": 32, "XXH64": 64, "XXH128": 128}
-SHORTEST, DERIVED = 136, 192                               # bytes of a secret, at least and from a seed
+SHORTEST, DERIVED = 136, 192  # bytes of a secret, at least and from a seed
 LIMIT = (1 << 64) - 1
-ALIGNMENT = 64                                             # of a state of XXH3
+ALIGNMENT = 64  # of a state of XXH3
 MOST_NODES = 500_000
 
 
@@ -54,6 +54,7 @@ def symbols_in(memory_name, size, word=8):
 
 
 # ---- canonical forms and comparisons
+
 
 def canonical_forms(module, name):
     """The conversion of a hash to bytes, the highest first, and back."""
@@ -104,6 +105,7 @@ def order_of_hashes(module, _case):
 
 # ---- the version, another name, copies
 
+
 def version(module, _case):
     expect("XXH_versionNumber", call(module, "XXH_versionNumber"), VERSION)
     return 1
@@ -114,7 +116,12 @@ def another_name(module, _case):
     module.reset()
     n, seed, value = variable("n"), seed_symbol("3-128"), (symbol("low", 64), symbol("high", 64))
     asked, given_arguments = [], [(Input("m", n), 0), n, seed]
-    module.instead[f"@{PREFIX}XXH3_128bits_withSeed"] = lambda arguments: asked.append(arguments) or value
+
+    def noted(arguments):
+        asked.append(arguments)
+        return value
+
+    module.instead[f"@{PREFIX}XXH3_128bits_withSeed"] = noted
     with given(at_most(n, LONGEST)):
         if call(module, "XXH128", *given_arguments) != value or asked != [given_arguments]:
             raise NotShown("XXH128 is another call")
@@ -132,10 +139,15 @@ def copies(module, algorithm):
 
 # ---- memory
 
+
 def reset_state(module, algorithm):
     state = Memory("state", ALGORITHMS[algorithm], alignment=ALIGNMENT)
-    call(module, f"{algorithm}_64bits_reset" if algorithm == "XXH3" else f"{algorithm}_reset",
-         *([(state, 0)] if algorithm == "XXH3" else [(state, 0), 0]))
+    call(
+        module,
+        f"{algorithm}_64bits_reset" if algorithm == "XXH3" else f"{algorithm}_reset",
+        (state, 0),
+        *([] if algorithm == "XXH3" else [0]),
+    )
     return state
 
 
@@ -149,6 +161,7 @@ def created_states(module, algorithm):
         def allocate(arguments, residue=residue, blocks=blocks):
             blocks.append(Memory("block", residue + arguments[0], alignment=ALIGNMENT))
             return blocks[-1], residue
+
         module.instead.update({"@malloc": allocate, "@free": lambda arguments, freed=freed: freed.append(*arguments)})
         state = call(module, f"{algorithm}_createState")
         if not isinstance(state, tuple):
@@ -186,6 +199,7 @@ def freed_null(module, algorithm):
 
 
 # ---- secrets
+
 
 def derived_secret(module, _case):
     """The 192 bytes of the secret derived from a seed."""
@@ -241,15 +255,18 @@ def generated_from_long(module, case):
 
 # ---- refusals
 
+
 def refused_secrets(module, _case):
     """Generated secrets of each size that is too short, into null, and from null as more than 0 bytes: nothing is
     written."""
     size, length = variable("size"), variable("length")
     memory, large = Memory("secret", SHORTEST), plus(size, SHORTEST)
     place, source = (memory, 0), (Input("m", length), 0)
-    cases = [(place, size, source, length, at_most(size, SHORTEST - 1)),
-             (0, size, source, length, at_most(size, LIMIT)),
-             (place, large, 0, plus(length, 1), at_most(large, LIMIT))]
+    cases = [
+        (place, size, source, length, at_most(size, SHORTEST - 1)),
+        (0, size, source, length, at_most(size, LIMIT)),
+        (place, large, 0, plus(length, 1), at_most(large, LIMIT)),
+    ]
     for *arguments, fact in cases:
         module.reset()
         with given(fact, at_most(plus(length, 1), LIMIT)):
@@ -299,9 +316,10 @@ def refused_one_shots(module, width):
 def null_inputs(module, _case):
     """One-shots of no bytes at null: the value of no bytes elsewhere."""
     seed, secret = seed_symbol("3-64"), ((Input("s", SHORTEST), 0), SHORTEST)
-    cases = [("XXH32", seed_symbol("32")), ("XXH64", seed)]
-    for width, (way, more) in itertools.product(WIDTHS, {"": (), "_withSeed": (seed,), "_withSecret": secret,
-                                                         "_withSecretandSeed": (*secret, seed)}.items()):
+    cases: list[tuple] = [("XXH32", seed_symbol("32")), ("XXH64", seed)]
+    for width, (way, more) in itertools.product(
+        WIDTHS, {"": (), "_withSeed": (seed,), "_withSecret": secret, "_withSecretandSeed": (*secret, seed)}.items()
+    ):
         cases.append((f"XXH3_{width}bits{way}", *more))
     for name, *more in cases:
         module.reset()
@@ -312,10 +330,17 @@ def null_inputs(module, _case):
 
 
 # The public functions whose values a check compares, by its kind.
-COMPARED = {canonical_forms: "{0}_canonicalFromHash {0}_hashFromCanonical", equal_hashes: "XXH128_isEqual",
-            order_of_hashes: "XXH128_cmp", version: "XXH_versionNumber", another_name: "XXH128",
-            copies: "{0}_copyState", created_states: "{0}_createState {0}_freeState",
-            derived_secret: "XXH3_generateSecret_fromSeed", generated_secrets: "XXH3_generateSecret",
-            generated_from_long: "XXH3_generateSecret"}
+COMPARED = {
+    canonical_forms: "{0}_canonicalFromHash {0}_hashFromCanonical",
+    equal_hashes: "XXH128_isEqual",
+    order_of_hashes: "XXH128_cmp",
+    version: "XXH_versionNumber",
+    another_name: "XXH128",
+    copies: "{0}_copyState",
+    created_states: "{0}_createState {0}_freeState",
+    derived_secret: "XXH3_generateSecret_fromSeed",
+    generated_secrets: "XXH3_generateSecret",
+    generated_from_long: "XXH3_generateSecret",
+}
 REFUSALS = freed_null, refused_secrets, refused_resets, refused_one_shots, null_inputs
 CHECKS = *COMPARED, *REFUSALS

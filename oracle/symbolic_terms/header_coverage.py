@@ -5,9 +5,14 @@ from . import every_length, header_calls, plain_streams, xxh3_streams
 from .reference import PREFIX
 
 DEFINED = re.compile(r"define (?!internal ).*?@(\w+)\(")
-OWN = "once_", "stream_"                 # functions of reference.c
-WAYS = {"default": "", "seed": "_withSeed", "seed 0": "_withSeed", "secret": "_withSecret",
-        "both": "_withSecretandSeed"}
+OWN = "once_", "stream_"  # functions of reference.c
+WAYS = {
+    "default": "",
+    "seed": "_withSeed",
+    "seed 0": "_withSeed",
+    "secret": "_withSecret",
+    "both": "_withSecretandSeed",
+}
 # By the place of the secret.
 RESETS = {"outside": ("_withSecret", "_withSecretandSeed"), "inside": ("", "_withSeed")}
 

@@ -6,8 +6,9 @@ unchanged. First turns determine these sets. Then a turn from any k is proved to
 violates this becomes unset, if it may, and the turn runs again.
 
 loops.py has the states for LLVM code, ../machine_code/induction.py and wasm/induction.py for assembly and modules."""
-from .polynomials import agree, given, is_number, minus, plus, times, variable
-from .polynomials import is_same_number
+from typing import Callable
+
+from .polynomials import agree, given, is_number, is_same_number, minus, plus, times, variable
 from .refusals import NotShown
 
 
@@ -42,9 +43,17 @@ def moved(x, step, k):
 
 class Induction:
     """A loop, given by the cells at its head. A subclass has `name`; `state()`, the current cells; `put(cells)`, which
-    sets them; `turn()`, from the head to the head; `new_name(prefix)`; `defined(k)`, the definition's words after k turns;
-    `supposed(k)`, fresh symbols assumed equal to these; and `may_hold_anything(cell)`."""
+    sets them; `turn()`, from the head to the head; `new_name(prefix)`; `defined(k)`, the definition's words after k
+    turns; `supposed(k)`, fresh symbols assumed equal to these; and `may_hold_anything(cell)`."""
 
+    name: str
+    state: Callable
+    put: Callable
+    turn: Callable
+    new_name: Callable
+    defined: Callable
+    supposed: Callable
+    may_hold_anything: Callable
     name_of = staticmethod(str)
 
     def __init__(self, start):

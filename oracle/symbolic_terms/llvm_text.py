@@ -4,14 +4,33 @@ Anything else is Unsupported: only attributes, alignments and metadata are skipp
 import collections
 import re
 from dataclasses import dataclass
+from typing import Any
 
 from .refusals import Unsupported
 from .modular import signed
 
 TOKEN = re.compile(r'c"[^"]*"|"[^"]*"|[%@][-\w.$]+|-?\d+|[\w.]+|\.\.\.|[][(){}<>,*=]|![\w.]*|#\d+')
-ATTRIBUTES = {"noundef", "noalias", "nocapture", "readonly", "writeonly", "immarg", "inbounds", "nuw", "nsw", "exact",
-              "dso_local", "internal", "private", "unnamed_addr", "signext", "zeroext", "volatile", "tail",
-              "local_unnamed_addr"}
+ATTRIBUTES = {
+    "noundef",
+    "noalias",
+    "nocapture",
+    "readonly",
+    "writeonly",
+    "immarg",
+    "inbounds",
+    "nuw",
+    "nsw",
+    "exact",
+    "dso_local",
+    "internal",
+    "private",
+    "unnamed_addr",
+    "signext",
+    "zeroext",
+    "volatile",
+    "tail",
+    "local_unnamed_addr",
+}
 POINTER_BYTES = 8
 
 
@@ -19,27 +38,37 @@ POINTER_BYTES = 8
 class Int:
     bits: int
 
-    def size(self): return max(1, (self.bits + 7) // 8)
+    def size(self):
+        return max(1, (self.bits + 7) // 8)
+
     alignment = size
 
 
 @dataclass(frozen=True)
 class Pointer:
-    def size(self): return POINTER_BYTES
+    def size(self):
+        return POINTER_BYTES
+
     alignment = size
 
 
 @dataclass(frozen=True)
 class Array:
     count: int
-    element: object
+    element: Any
 
-    def size(self): return self.count * self.element.size()
-    def alignment(self): return self.element.alignment()
-    def offset(self, index): return index * self.element.size()
+    def size(self):
+        return self.count * self.element.size()
+
+    def alignment(self):
+        return self.element.alignment()
+
+    def offset(self, index):
+        return index * self.element.size()
 
     @property
-    def parts(self): return (self.element,) * self.count
+    def parts(self):
+        return (self.element,) * self.count
 
 
 @dataclass(frozen=True)
@@ -47,7 +76,9 @@ class Vector:
     lanes: int
     bits: int
 
-    def size(self): return self.lanes * self.bits // 8
+    def size(self):
+        return self.lanes * self.bits // 8
+
     alignment = size
 
 
@@ -56,8 +87,11 @@ class Struct:
     parts: tuple
     is_packed: bool
 
-    def alignment(self): return 1 if self.is_packed else max([part.alignment() for part in self.parts] or [1])
-    def size(self): return rounded_up(self.offset(len(self.parts)), self.alignment())
+    def alignment(self):
+        return 1 if self.is_packed else max([part.alignment() for part in self.parts] or [1])
+
+    def size(self):
+        return rounded_up(self.offset(len(self.parts)), self.alignment())
 
     def offset(self, index):
         at = 0
@@ -69,10 +103,11 @@ class Struct:
         return at
 
 
-Register, Constant = collections.namedtuple("Register", "name"), collections.namedtuple("Constant", "value")
+Register = collections.namedtuple("Register", "name")
+Constant = collections.namedtuple("Constant", "value")
 FunctionName = collections.namedtuple("FunctionName", "name")
 POINTER, VOID = Pointer(), "void"
-NOTHING = "@no.operation"   # callee of an empty `asm`
+NOTHING = "@no.operation"  # callee of an empty `asm`
 
 
 def rounded_up(n, k):
@@ -112,7 +147,7 @@ class Reader:
         while True:
             if self.take("*"):
                 t = POINTER
-            elif self.peek() == "(":   # a function's parameters, always behind a pointer
+            elif self.peek() == "(":  # a function's parameters, always behind a pointer
                 self.skip_brackets()
             else:
                 return t
@@ -275,9 +310,16 @@ BINARY = {"add", "sub", "mul", "xor", "or", "and", "shl", "lshr", "udiv", "urem"
 PATTERNS = {
     **dict.fromkeys(BINARY, "typed , operand"),
     **dict.fromkeys(("zext", "sext", "trunc", "bitcast", "ptrtoint"), "typed to type"),
-    "icmp": "word typed , operand", "load": "type rest", "store": "typed rest", "getelementptr": "type rest",
-    "extractvalue": "typed , number", "insertvalue": "typed , typed , number", "insertelement": "typed rest",
-    "shufflevector": "typed rest", "select": "typed rest", "unreachable": "",
+    "icmp": "word typed , operand",
+    "load": "type rest",
+    "store": "typed rest",
+    "getelementptr": "type rest",
+    "extractvalue": "typed , number",
+    "insertvalue": "typed , typed , number",
+    "insertelement": "typed rest",
+    "shufflevector": "typed rest",
+    "select": "typed rest",
+    "unreachable": "",
 }
 
 
@@ -300,7 +342,12 @@ def instruction(module, line):
 
 def read(reader, pattern):
     """Returns the parts of an instruction, as a pattern lists them."""
-    out, readers = [], {"type": reader.type, "word": reader.next, "rest": reader.rest, "number": lambda: int(reader.next())}
+    out, readers = [], {
+        "type": reader.type,
+        "word": reader.next,
+        "rest": reader.rest,
+        "number": lambda: int(reader.next()),
+    }
     for item in pattern.split():
         if item in (",", "to"):
             reader.expect(item)
@@ -324,7 +371,7 @@ def read_br(reader, _):
 
 def read_ret(reader, _):
     t = reader.type()
-    return None if t == VOID else reader.operand(t),
+    return (None if t == VOID else reader.operand(t),)
 
 
 def read_call(reader, _):
@@ -341,7 +388,7 @@ def read_alloca(reader, target):
 
 def alignment_of(reader):
     """Returns the number after `align`, or 1."""
-    rest = reader.tokens[reader.at:]
+    rest = reader.tokens[reader.at :]
     return int(rest[rest.index("align") + 1]) if "align" in rest else 1
 
 
@@ -353,7 +400,7 @@ def read_phi(reader, _):
         reader.expect(",")
         out[reader.next()] = a
         reader.expect("]")
-    return out,
+    return (out,)
 
 
 READERS = {"br": read_br, "ret": read_ret, "alloca": read_alloca, "call": read_call, "phi": read_phi}

@@ -23,6 +23,7 @@ class Loop:
 
 # ---- the loops of a function
 
+
 def successors(function):
     out = {}
     for name, lines in function.blocks.items():
@@ -66,15 +67,17 @@ def blocks_of_loop(after, head, back):
 
 
 class Loops:
-    """Proves each loop that control reaches. `describers` maps the prefix of a function's name to a function of the module's
-    function and the registers. That returns a Loop, or None if the number of iterations is concrete."""
+    """Proves each loop that control reaches. `describers` maps the prefix of a function's name to a function of the
+    module's function and the registers. That returns a Loop, or None if the number of iterations is concrete."""
 
     def __init__(self, describers, messages):
         self.describers, self.messages, self.running = describers, messages, {}
 
     def pass_by(self, function, registers, before, block):
         """Returns (before, block) after the loop, or unchanged if the loop isn't proved."""
-        describe = next((describe for name, describe in self.describers.items() if function.name.startswith(name)), None)
+        describe = next(
+            (describe for name, describe in self.describers.items() if function.name.startswith(name)), None
+        )
         if describe is None or block not in loops_of(function):
             return before, block
         key = function.name, block
@@ -83,7 +86,7 @@ class Loops:
             loop = around.then if around.is_leaving else None
         else:
             loop = describe(function, registers)
-        if loop is None or is_same_number(loop.last, 0):   # runs iteration by iteration
+        if loop is None or is_same_number(loop.last, 0):  # runs iteration by iteration
             return before, block
         self.running[key] = loop
         try:
@@ -128,8 +131,10 @@ class Proof(Induction):
         answer = self.walk(None)
         if not isinstance(answer, tuple) or answer[1] == self.head:
             raise NotShown(f"{loop.name}: the loop isn't left")
-        places = sorted(f"{memory.name[1:]} = {shown(moved(value, step, variable('k'))[1])}"
-                        for (memory, _), (value, step) in self.places.items())
+        places = sorted(
+            f"{memory.name[1:]} = {shown(moved(value, step, variable('k'))[1])}"
+            for (memory, _), (value, step) in self.places.items()
+        )
         self.loops.messages.append(f"{loop.name}: k = 0 .. {loop.last}, {', '.join(places)}")
         return answer
 
@@ -184,4 +189,3 @@ class Proof(Induction):
 
 def shown(x):
     return f"{x[0].name} + {x[1]}" if isinstance(x, tuple) else str(x)
-

@@ -1,20 +1,34 @@
 """Runs functions of LLVM code symbolically. Addresses, lengths and branches are numbers, or polynomials that the facts
 decide; bytes of an input are terms. A vector is one number, with its first lane in the lowest bits."""
+from typing import Callable
+
 from . import halves, operations
-from .llvm_text import (NOTHING, Array, FunctionName, Pointer, Reader, Register, Struct, Vector, alignment_of,
-                        instruction, place_of)
+from .llvm_text import (
+    NOTHING,
+    Array,
+    FunctionName,
+    Pointer,
+    Reader,
+    Register,
+    Struct,
+    Vector,
+    alignment_of,
+    instruction,
+    place_of,
+)
 from .memory import Input, Memory, taken
 from .nodes import Node, symbol
 from .operations import bits, side_by_side
 from .polynomials import Poly, constant_of, is_natural, is_number, lifted, minus, plus
 from .refusals import Undecided, Unsupported
-from .modular import BINARY, compare_numbers, rotated, signed
+from .modular import BINARY, signed
+from .signs_and_rotations import compare_numbers, rotated
 
 
 WORD = 64
 HALF = 1 << WORD - 1
 DIVISIONS = "udiv", "urem", "sdiv"
-NOTED = "add", "mul", "and", "or", "shl", "lshr"      # operations of a product by halves
+NOTED = "add", "mul", "and", "or", "shl", "lshr"  # operations of a product by halves
 
 
 def is_address(x):
@@ -30,11 +44,11 @@ def pointed(x):
 
 def binary(module, value, word, t, a, b):
     a, b = value(a), value(b)
-    if word == "sub" and is_address(a) and is_address(b):   # the difference of two addresses in one object
+    if word == "sub" and is_address(a) and is_address(b):  # the difference of two addresses in one object
         if a[0] is not b[0]:
             raise Unsupported("the difference of two objects")
         a, b = a[1], b[1]
-    if word in ("and", "urem") and is_address(a):           # a test of alignment
+    if word in ("and", "urem") and is_address(a):  # a test of alignment
         size = b + 1 if word == "and" else b
         if not isinstance(size, int) or size < 1 or size & size - 1 or a[0].alignment % size:
             raise Unsupported("the bits of an address")
@@ -44,10 +58,13 @@ def binary(module, value, word, t, a, b):
     if word in DIVISIONS and isinstance(b, int) and not b:
         raise Unsupported("a division by 0")
     result = BINARY[word](t.bits, a, b)
-    return halves.noted(word, a, b, result) if module.multiplies_by_halves and t.bits == WORD and word in NOTED else result
+    return (
+        halves.noted(word, a, b, result) if module.multiplies_by_halves and t.bits == WORD and word in NOTED else result
+    )
 
 
 # ---- vectors
+
 
 def lanes_of(x, t):
     return [bits(0 if x is None else x, t.bits * k, t.bits) for k in range(t.lanes)]
@@ -76,6 +93,7 @@ def shuffle(module, value, t, a, operands):
 
 
 # ---- comparisons
+
 
 def compare(module, value, test, t, a, b):
     a, b = value(a), value(b)
@@ -122,8 +140,9 @@ def compare_terms(module, test, a, b):
 
 # ---- loads, stores, calls
 
+
 def load(module, value, t, operands):
-    (_, address), = operands
+    ((_, address),) = operands
     memory, at = pointed(value(address))
     if isinstance(t, (Array, Struct)):
         return tuple(memory.load(at + t.offset(k), part.size()) for k, part in enumerate(t.parts))
@@ -131,7 +150,7 @@ def load(module, value, t, operands):
 
 
 def store(module, value, t, a, operands):
-    (_, address), = operands
+    ((_, address),) = operands
     (memory, at), a = pointed(value(address)), value(a)
     if isinstance(t, (Array, Struct)):
         for k, part in enumerate(t.parts):
@@ -146,7 +165,7 @@ def address(module, value, t, operands):
     if not all(is_number(x) for x in numbers):
         raise Undecided("an address")
     memory, at = place_of(t, pointed(value(base)), *numbers)
-    if constant_of(at) >= HALF and is_natural(minus(at, HALF)):   # offsets are numbers modulo 2 ^ 64
+    if constant_of(at) >= HALF and is_natural(minus(at, HALF)):  # offsets are numbers modulo 2 ^ 64
         at = minus(at, 1 << WORD)
     return memory, at
 
@@ -166,6 +185,7 @@ def allocate(module, value, name, size, alignment):
 
 # ---- LLVM's intrinsics
 
+
 def intrinsic(name, arguments):
     if name == NOTHING:
         return arguments[0]
@@ -175,7 +195,7 @@ def intrinsic(name, arguments):
         (memory, at), byte, n = arguments[:3]
         return memory.fill(at, n, byte)
     if name.startswith("@llvm.fshl.i"):
-        return rotated(int(name[len("@llvm.fshl.i"):]), *arguments)
+        return rotated(int(name[len("@llvm.fshl.i") :]), *arguments)
     if name.startswith("@llvm.x86.") and name.endswith((".psrli.q", ".pslli.q")):
         word, count = "lshr" if "psrl" in name else "shl", 4 if "avx2" in name else 2
         lanes = [bits(arguments[0], WORD * k, WORD) for k in range(count)]
@@ -210,6 +230,7 @@ def copy(to, source, n):
 
 
 # ---- all operations
+
 
 def truncate(module, value, t, a, to):
     a = value(a)
@@ -248,21 +269,34 @@ def select(module, value, _, condition, operands):
     return value(a if condition else b)
 
 
-OPERATIONS = {
-    "binary": binary, "lanes": on_lanes, "insertelement": insert_lane, "shufflevector": shuffle, "icmp": compare,
-    "load": load, "store": store, "getelementptr": address, "call": call, "alloca": allocate, "select": select,
-    **dict.fromkeys(("zext", "bitcast", "ptrtoint"), lambda module, value, t, a, to: value(a)), "trunc": truncate,
-    "sext": extend_sign, "insertvalue": insert_part, "extractvalue": extract_part,
+OPERATIONS: dict[str, Callable] = {
+    "binary": binary,
+    "lanes": on_lanes,
+    "insertelement": insert_lane,
+    "shufflevector": shuffle,
+    "icmp": compare,
+    "load": load,
+    "store": store,
+    "getelementptr": address,
+    "call": call,
+    "alloca": allocate,
+    "select": select,
+    **dict.fromkeys(("zext", "bitcast", "ptrtoint"), lambda module, value, t, a, to: value(a)),
+    "trunc": truncate,
+    "sext": extend_sign,
+    "insertvalue": insert_part,
+    "extractvalue": extract_part,
 }
 
 
 # ---- functions and modules
 
+
 class Function:
     """A function of a module: blocks of instructions, by label."""
 
     def __init__(self, module, lines):
-        head = Reader(module, lines[0][len("define "):])
+        head = Reader(module, lines[0][len("define ") :])
         self.module, self.result, self.name = module, head.type(), head.next()
         head.expect("(")
         self.parameters = [x.name for _, x in head.typed_list(")")]
@@ -303,8 +337,10 @@ class Function:
 
     def run_block(self, registers, before, block):
         """Returns the target of a block's branch and None, or None and the function's value."""
+
         def value(x):
             return registers[x.name] if x.__class__ is Register else x.value
+
         for target, operation, parts in self.blocks[block]:
             if operation == "br":
                 condition = 1 if parts[0] is None else value(parts[0])
@@ -313,7 +349,9 @@ class Function:
                 return parts[1] if condition else parts[2], None
             if operation == "ret":
                 return None, None if parts[0] is None else value(parts[0])
-            result = value(parts[0][before]) if operation == "phi" else OPERATIONS[operation](self.module, value, *parts)
+            result = (
+                value(parts[0][before]) if operation == "phi" else OPERATIONS[operation](self.module, value, *parts)
+            )
             if target is not None:
                 registers[target] = result
         raise Unsupported(f"{block} of {self.name} has no end")
@@ -345,7 +383,7 @@ class Module:
                 self.read_global(line)
         for first in range(len(self.lines)):
             if self.lines[first].startswith("define "):
-                function = Function(self, self.lines[first:self.lines.index("}", first)])
+                function = Function(self, self.lines[first : self.lines.index("}", first)])
                 self.functions[function.name] = function
 
     def reset(self):

@@ -84,7 +84,7 @@ class Memory:
 
     def __init__(self, name, length, cells=(), runs=(), run_area=None, alignment=1):
         self.name, self.length, self.run_area, self.alignment, self.residue = name, length, run_area, alignment, 0
-        self.cells = {at: (n, value) for at, n, value in cells}
+        self.cells: dict = {at: (n, value) for at, n, value in cells}
         if runs:
             self.cells[RUNS] = tuple(runs)
 
@@ -97,10 +97,14 @@ class Memory:
 
     # ---- stores
 
-    def store(self, at, n, value):
+    def allow(self, at, n):
+        """Refuses a store outside of the object, or at a symbolic offset."""
         if not isinstance(at, int):
             raise Unsupported(f"a store at {at} of {self.name}")
         self.check(at, n)
+
+    def store(self, at, n, value):
+        self.allow(at, n)
         cell = self.cells.get(at)
         if self.cells and (cell is None or cell[0] != n):
             self.clear(at, n)
@@ -203,8 +207,8 @@ def in_order(a, b):
 
 
 def outside(run, at, end):
-    """Returns the parts of a run that are known to be outside of at .. end - 1: one before and one behind. If it isn't known
-    where the run begins, compared with `end`, the latter begins some bytes later."""
+    """Returns the parts of a run that are known to be outside of at .. end - 1: one before and one behind. If it isn't
+    known where the run begins, compared with `end`, the latter begins some bytes later."""
     low, high, source, place = run
     if is_natural(minus(at, high)) or is_natural(minus(low, end)):
         return [run]

@@ -1,11 +1,10 @@
-"""Operations, comparisons and rotations of words: numbers, polynomials or terms."""
+"""Operations and comparisons of words: numbers, polynomials or terms."""
 import contextlib
 
 from . import operations
 from .nodes import SUM, Node
-from .operations import bits
-from .polynomials import divided, is_less, is_natural, is_number, lifted, minus, plus, times, wrapped
-from .refusals import Undecided, Unsupported
+from .polynomials import divided, is_less, is_number, lifted, minus, plus, times, wrapped
+from .refusals import Undecided
 from .rules import ones
 
 
@@ -70,27 +69,6 @@ BINARY = {
 
 TESTS = {"eq": lambda a, b: a == b, "ne": lambda a, b: a != b, "lt": is_less, "gt": lambda a, b: is_less(b, a),
          "le": lambda a, b: not is_less(b, a), "ge": lambda a, b: not is_less(a, b)}
-
-
-def compare_numbers(test, width, a, b):
-    if test[0] == "s":
-        a, b = (with_sign(x, width) for x in (a, b))
-    return TESTS[test[-2:]](a, b)
-
-
-def with_sign(x, width):
-    if isinstance(x, int):
-        return signed(x, width)
-    if not is_natural(minus(ones(width - 1), x)):
-        raise Undecided(f"the sign of {x}")
-    return x
-
-
-def rotated(width, a, b, k):
-    if a is not b and a != b:
-        raise Unsupported("a shift of two words")
-    k = amount(k) % width
-    return operations.either(operations.multiply_at(width, a, 1 << k), bits(a, width - k, k)) if k else a
 
 
 def signed(n, width=64):

@@ -26,6 +26,17 @@ class WrongRule(Exception):
 class Node:
     __slots__ = "number", "op", "width", "most", "parts", "constant", "is_exact", "values", "segments"
 
+    def __init__(self, op, parts, width, most, constant, is_exact):
+        self.number, self.op, self.width, self.most, self.parts = len(NODES), op, width, most, parts
+        self.constant, self.is_exact = constant, is_exact
+        self.segments = parts if op is BITS else ((width, 0, ((self.number, 0),)),)
+        NODES.append(self)
+        if op is SYMBOL:
+            self.values = values_of_symbol(parts[0], width)
+        else:
+            self.values = tuple(meaning(self, lambda x, k=k: x if isinstance(x, int) else x.values[k])
+                                for k in range(POINTS))
+
     def __repr__(self):
         return f"<{self.op}{self.width} #{self.number}>"
 
@@ -55,24 +66,10 @@ def forget():
         known.clear()
 
 
-def mark():
-    """Returns the current size of the tables, for `release`."""
-    return len(NODES), [len(known) for known in MEMOS]
-
-
-def release(point):
-    """Forgets the nodes made since `mark`."""
-    nodes, sizes = point
-    del NODES[nodes:]
-    for known, size in zip(MEMOS, sizes):
-        while len(known) > size:
-            known.popitem()
-
-
 def node(op, parts, width, most, constant=0, is_exact=False):
     """Returns the node of a structure, made only once. `most` is an upper bound of its value."""
     if op is BITS:
-        key = op, parts
+        key: tuple = op, parts
     elif op is SUM:
         key = op, width, constant, tuple((c, x.number) for c, x in parts)
     elif op is PRODUCT:
@@ -81,21 +78,8 @@ def node(op, parts, width, most, constant=0, is_exact=False):
         key = op, tuple(x if isinstance(x, (int, str)) else ("node", x.number) for x in parts)
     known = BY_KEY.get(key)
     if known is None:
-        known = BY_KEY[key] = new_node(op, parts, width, most, constant, is_exact)
+        known = BY_KEY[key] = Node(op, parts, width, most, constant, is_exact)
     return known
-
-
-def new_node(op, parts, width, most, constant, is_exact):
-    out = Node()
-    out.number, out.op, out.width, out.most, out.parts = len(NODES), op, width, most, parts
-    out.constant, out.is_exact = constant, is_exact
-    out.segments = parts if op is BITS else ((width, 0, ((out.number, 0),)),)
-    NODES.append(out)
-    if op is SYMBOL:
-        out.values = values_of_symbol(parts[0], width)
-    else:
-        out.values = tuple(meaning(out, lambda x, k=k: x if isinstance(x, int) else x.values[k]) for k in range(POINTS))
-    return out
 
 
 def symbol(name, width):

@@ -4,6 +4,7 @@ convert a polynomial argument to a word.
 Each operation is computed once for the same arguments. Its result is then compared, at the points of nodes.py, with the
 operation on numbers. CHECKED = False turns this off."""
 import functools
+from typing import Callable
 
 from . import nodes, rules
 from .nodes import NATURALS, OPAQUE, Node, WrongRule, memo, most_of, node, use, window
@@ -15,7 +16,7 @@ CHECKED = True
 watching = []        # called with each operation: its name, its result and its arguments
 
 # Semantics of each operation on numbers.
-MEANINGS = {
+MEANINGS: dict[str, Callable] = {
     "add": lambda a, b: a + b, "multiply": lambda a, b: a * b, "monus": NATURALS["monus"], "remainder": NATURALS["mod"],
     "quotient": NATURALS["div"], "xor": lambda a, b: a ^ b, "either": lambda a, b: a | b, "both": lambda a, b: a & b,
     "shift_right": lambda a, k: a >> k, "bits": window, "multiply_at": lambda width, a, b: a * b % (1 << width),
@@ -238,13 +239,8 @@ for name, on_naturals in {"add": add, "mul": multiply, "xor": xor, "or": either,
                           "floordiv": quotient}.items():
     setattr(Node, f"__{name}__", operator(on_naturals))
     setattr(Node, f"__r{name}__", turned(on_naturals))
-Node.__lshift__ = lambda self, k: multiply(self, 1 << k)
-Node.__rshift__ = shift_right
-Node.__eq__ = operator(is_equal)
-Node.__ne__ = lambda self, other: not self == other
-Node.__hash__ = object.__hash__
-Node.__lt__ = operator(is_below)
-Node.__gt__ = turned(is_below)
-Node.__le__ = lambda self, other: not self > other
-Node.__ge__ = lambda self, other: not self < other
-Node.__bool__ = Node.__index__ = no_number
+for name, method in {"lshift": lambda self, k: multiply(self, 1 << k), "rshift": shift_right, "eq": operator(is_equal),
+                     "ne": lambda self, other: not self == other, "hash": object.__hash__, "lt": operator(is_below),
+                     "gt": turned(is_below), "le": lambda self, other: not self > other,
+                     "ge": lambda self, other: not self < other, "bool": no_number, "index": no_number}.items():
+    setattr(Node, f"__{name}__", method)

@@ -13,8 +13,10 @@ from .memory import Input, Memory, Piece
 from .polynomials import agree, as_word, at_most, given, is_natural, is_same_number, minus, plus, times, variable
 from .reference import BESIDE
 
-FIELDS = {64: ["total", "accumulators", "buffer", "memsize"],
-          32: ["total", "large", "accumulators", "buffer", "memsize"]}
+FIELDS = {
+    64: ["total", "accumulators", "buffer", "memsize"],
+    32: ["total", "large", "accumulators", "buffer", "memsize"],
+}
 OK = 0
 
 
@@ -51,13 +53,20 @@ class PlainStreams(Proof):
     def buffered(self, a, r):
         """Returns the bytes of an incomplete stripe, as a run in the buffer."""
         first = self.at["buffer"]
-        return [] if is_same_number(r, 0) else [(first, plus(first, r), self.source, minus(times(self.stripe, a), first))]
+        return (
+            [] if is_same_number(r, 0) else [(first, plus(first, r), self.source, minus(times(self.stripe, a), first))]
+        )
 
     def state(self, a, r):
         accumulators = self.symbols_after(a, lambda j: self.accumulator(j, a), 4, self.width)
         first = self.at["buffer"]
-        return Memory("state", self.size, self.numbers(a, r, accumulators), self.buffered(a, r),
-                      run_area=(first, first + self.stripe))
+        return Memory(
+            "state",
+            self.size,
+            self.numbers(a, r, accumulators),
+            self.buffered(a, r),
+            run_area=(first, first + self.stripe),
+        )
 
     def expect_state(self, what, memory, a, r):
         self.cases += 1
@@ -92,22 +101,37 @@ class PlainStreams(Proof):
                 self.update(a, 0, plus(a, d), s, [*of_s, minus(d, 1)])
                 self.update(a, r, plus(a, 1), s, [*some, *of_s, minus(minus(r, 1), s)])
                 self.update(a, r, plus(a, d), s, [*some, *of_s, minus(d, 2)])
-            self.update(a, r, plus(a, 1), t, [*some, at_most(t, self.stripe - 1), minus(t, r)])   # t >= 1 here
+            self.update(a, r, plus(a, 1), t, [*some, at_most(t, self.stripe - 1), minus(t, r)])  # t >= 1 here
 
     def update(self, a, r, b, s, facts):
         """Proves an update by one chunk from stripe * a + r bytes to stripe * b + s."""
         begun, ended = plus(times(self.stripe, a), r), plus(times(self.stripe, b), s)
-        first = plus(a, int(not is_same_number(r, 0)))     # the first stripe behind the buffered one
+        first = plus(a, int(not is_same_number(r, 0)))  # the first stripe behind the buffered one
         with self.up_to(ended, *facts, *at_least_one(a)):
             self.prepare({})
             self.module.allows_unknown_bits, self.module.beside = self.width == 32, BESIDE
             memory = self.state(a, r)
             of_state = [(memory, self.at["accumulators"] + self.word * j) for j in range(4)]
             cells = of_state if self.names is REFERENCE else None
-            describe = plain_loop(self.names, "an update's stripes", self.texts[f"Xxh{self.width}.accumulator"], self.seed,
-                                  self.message, minus(minus(b, first), 1), self.width, first, cells)
-            self.module.loops.describers.update({self.function("update"): describe, **{
-                name.format(self.width): of_any_length(describe, self.names) for name in self.names.update_loops}})
+            describe = plain_loop(
+                self.names,
+                "an update's stripes",
+                self.texts[f"Xxh{self.width}.accumulator"],
+                self.seed,
+                self.message,
+                minus(minus(b, first), 1),
+                self.width,
+                first,
+                cells,
+            )
+            self.module.loops.describers.update(
+                {
+                    self.function("update"): describe,
+                    **{
+                        name.format(self.width): of_any_length(describe, self.names) for name in self.names.update_loops
+                    },
+                }
+            )
             self.module.live.append(memory)
             length = minus(ended, begun)
             piece = Piece(self.source, begun, length)
@@ -130,7 +154,7 @@ class PlainStreams(Proof):
 
     def digest(self, a, r):
         n = plus(times(self.stripe, a), r)
-        self.source = Input("m", n)              # the whole message here
+        self.source = Input("m", n)  # the whole message here
         self.message = Bytes(self.source, 0, n)
         with given(at_most(n, LONGEST), *at_least_one(a)):
             self.prepare({})
@@ -146,7 +170,8 @@ def at_least_one(a):
 def of_any_length(describe, names):
     """Returns a function that describes a loop like `describe`, if the length isn't a number."""
     return lambda function, registers: (
-        None if isinstance(registers.get(names.plain_length), int) else describe(function, registers))
+        None if isinstance(registers.get(names.plain_length), int) else describe(function, registers)
+    )
 
 
 def show(module, algorithm):

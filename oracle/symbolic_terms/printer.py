@@ -63,6 +63,7 @@ def steps(value):
             text = shown(x, names)
             names[x.number] = f"t{len(names) + 1}"
             lines.append(f"{names[x.number]} = {text}")
+
     if not isinstance(value, Node):
         return [f"value = {value:#x}"]
     visit(value)
@@ -73,8 +74,10 @@ def show(module, hash_name, length):
     """Returns the lines of both sides, each from an empty table, with a symbolic seed."""
     out = []
     request = Request(hash_name, "seed", length)
-    for side, ask in (("the definition", lambda: request.of_definition(definition.program().run())),
-                      ("the reference", lambda: reference.of_reference(request, module))):
+    for side, ask in (
+        ("the definition", lambda: request.of_definition(definition.program().run())),
+        ("the reference", lambda: reference.of_reference(request, module)),
+    ):
         nodes.forget()
         out.append((f"{request}, by {side}", steps(ask())))
     return out

@@ -30,16 +30,22 @@ class Task:
 
 
 def options(description, jobs=2):
-    """Returns a parser of a check's options: --all, --only WORD and --jobs NUMBER."""
+    """Returns a parser of a check's options: --all, --only WORD, --skip NUMBER and --jobs NUMBER."""
     out = argparse.ArgumentParser(description=description, formatter_class=argparse.RawDescriptionHelpFormatter)
-    out.add_argument("--all", action="store_true")
-    out.add_argument("--only", default="")
-    out.add_argument("--jobs", type=int, default=jobs)
+    out.add_argument("--all", action="store_true", help="run all cases")
+    out.add_argument("--only", default="", help="run only the tasks with this word")
+    out.add_argument("--skip", type=int, default=0, help="leave out so many of these tasks: an earlier run had them")
+    out.add_argument("--jobs", type=int, default=jobs, help="number of processes")
     return out
 
 
+def chosen(tasks, given):
+    """Returns the tasks that the options ask for."""
+    return [task for task in tasks if given.only in task.title][given.skip:]
+
+
 def run(tasks, jobs):
-    """Runs the tasks and prints their results. Returns the exit status. Their processes share the parsed definitions."""
+    """Runs the tasks and prints their results. Returns the exit status. The processes share the parsed definitions."""
     began, passed = time.monotonic(), 0
     definition.program().run()
     gc.freeze()                 # sources and definitions stay: a task's process doesn't look through them
@@ -66,11 +72,11 @@ def in_process(task):
         process.start()
         theirs.close()
     try:
-        return ours.recv()
+        report = ours.recv()
     except EOFError:
-        return f"FAILED {task.title}: its process ended", False
-    finally:
-        process.join()
+        report = None
+    process.join()
+    return report or (f"FAILED {task.title}: its process ended with status {process.exitcode}", False)
 
 
 def answer(task, pipe):
@@ -91,5 +97,5 @@ def outcome(task):
         return task.ask()
     except (*REFUSALS, WrongRule) as error:
         return "", [f"{type(error).__name__}: {error}"]
-    except Exception:
+    except (Exception, SystemExit):          # a tool that fails ends the check
         return "", traceback.format_exc().splitlines()

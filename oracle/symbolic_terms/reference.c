@@ -34,8 +34,10 @@ void once_3_128_both(MESSAGE, SECRET, SEED, OUT) { put(XXH3_128bits_withSecretan
     reset; \
     for (size_t i = 0; i < count; i++) { hash##_update(&state, (const char *)p + at, cuts[i] - at); at = cuts[i]; } \
     hash##_update(&state, (const char *)p + at, n - at);
-#define STREAM_64(reset) STREAM(XXH3_state_t, XXH3_64bits, XXH3_INITSTATE(&state); reset) return XXH3_64bits_digest(&state);
-#define STREAM_128(reset) STREAM(XXH3_state_t, XXH3_128bits, XXH3_INITSTATE(&state); reset) put(XXH3_128bits_digest(&state), out);
+#define STREAM_64(reset) \
+    STREAM(XXH3_state_t, XXH3_64bits, XXH3_INITSTATE(&state); reset) return XXH3_64bits_digest(&state);
+#define STREAM_128(reset) \
+    STREAM(XXH3_state_t, XXH3_128bits, XXH3_INITSTATE(&state); reset) put(XXH3_128bits_digest(&state), out);
 
 XXH32_hash_t stream_32_seed(MESSAGE, XXH32_hash_t seed, PIECES)
 {

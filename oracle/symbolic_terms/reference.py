@@ -12,27 +12,32 @@ from .memory import Memory
 from .nodes import Node
 
 FOLDER = os.path.dirname(os.path.abspath(__file__))
-HEADERS = "/usr/include"          # folder of Debian's libxxhash-dev
+HEADERS = "/usr/include"  # folder of Debian's libxxhash-dev
 VECTORS = {"scalar": ["-DXXH_VECTOR=0"], "sse2": ["-DXXH_VECTOR=1"], "avx2": ["-DXXH_VECTOR=2", "-mavx2"]}
 # Forms of c/include/xxhash.h: also without products of 128 bits, with words that are read byte by byte, as on
 # processors that store the highest byte first, and for 64-bit ARM, without the headers of its C library.
-FORMS = {**VECTORS, "halves": ["-DXXH_VECTOR=0", "-U__SIZEOF_INT128__"],
-         "bytes": ["-DXXH_VECTOR=0", "-DXXH_CPU_LITTLE_ENDIAN=0", "-U__SIZEOF_INT128__"],
-         "neon": ["-DXXH_VECTOR=4", "--target=aarch64-linux-gnu", "-ffreestanding", "-DXXH_NO_STDLIB"]}
-MARK = "XXHASH_H_TWOX_HASH"       # a name that only c/include/xxhash.h has
-PREFIX = "XXH_INLINE_"            # of the names of public functions in LLVM code
+FORMS = {
+    **VECTORS,
+    "halves": ["-DXXH_VECTOR=0", "-U__SIZEOF_INT128__"],
+    "bytes": ["-DXXH_VECTOR=0", "-DXXH_CPU_LITTLE_ENDIAN=0", "-U__SIZEOF_INT128__"],
+    "neon": ["-DXXH_VECTOR=4", "--target=aarch64-linux-gnu", "-ffreestanding", "-DXXH_NO_STDLIB"],
+}
+MARK = "XXHASH_H_TWOX_HASH"  # a name that only c/include/xxhash.h has
+PREFIX = "XXH_INLINE_"  # of the names of public functions in LLVM code
 ALL_PUBLIC = ["-DXXH_IMPLEMENTATION", f"-DXXH_NAMESPACE={PREFIX}"]
 CLANG = "clang-14"
 DEBIAN_PYTHON = "/usr/lib/python3/dist-packages"
-BESIDE = 512                      # bytes around a chunk within which streams compare addresses
+BESIDE = 512  # bytes around a chunk within which streams compare addresses
 
 
 def install(headers, with_solver):
     """Installs missing packages: clang, Debian's header if it is used, and z3."""
-    is_there = {CLANG: shutil.which(CLANG),
-                "libxxhash-dev": headers != HEADERS or os.path.exists(f"{HEADERS}/xxhash.h"),
-                "python3-z3": not with_solver or os.path.exists(f"{DEBIAN_PYTHON}/z3")}
-    tools.install([package for package, there in is_there.items() if not there])
+    is_there = {
+        CLANG: shutil.which(CLANG),
+        "libxxhash-dev": headers != HEADERS or os.path.exists(f"{HEADERS}/xxhash.h"),
+        "python3-z3": not with_solver or os.path.exists(f"{DEBIAN_PYTHON}/z3"),
+    }
+    tools.install({package for package, there in is_there.items() if not there})
 
 
 def is_ours(headers):
@@ -48,8 +53,23 @@ def llvm_text(headers=HEADERS, vector="scalar"):
     with tempfile.TemporaryDirectory(prefix="symbolic-") as workdir:
         out = f"{workdir}/reference.ll"
         shutil.copy(f"{headers}/xxhash.h", workdir)
-        subprocess.run([CLANG, "-O0", "-w", "-fno-discard-value-names", "-S", "-emit-llvm", *flags, "-I", workdir,
-                        f"{FOLDER}/reference.c", "-o", out], check=True)
+        subprocess.run(
+            [
+                CLANG,
+                "-O0",
+                "-w",
+                "-fno-discard-value-names",
+                "-S",
+                "-emit-llvm",
+                *flags,
+                "-I",
+                workdir,
+                f"{FOLDER}/reference.c",
+                "-o",
+                out,
+            ],
+            check=True,
+        )
         with open(out, encoding="utf-8") as file:
             return file.read()
 
@@ -62,9 +82,11 @@ def release_of(headers):
     """Returns the header's version, and its SHA-256."""
     with open(f"{headers}/xxhash.h", "rb") as file:
         text = file.read()
-    numbers = [line.split()[2].decode() for line in text.splitlines()
-               if line.startswith((b"#define XXH_VERSION_MAJOR", b"#define XXH_VERSION_MINOR",
-                                   b"#define XXH_VERSION_RELEASE"))]
+    numbers = [
+        line.split()[2].decode()
+        for line in text.splitlines()
+        if line.startswith((b"#define XXH_VERSION_MAJOR", b"#define XXH_VERSION_MINOR", b"#define XXH_VERSION_RELEASE"))
+    ]
     return ".".join(numbers), hashlib.sha256(text).hexdigest()
 
 

@@ -332,7 +332,7 @@ class Collected:
         key = tuple((atom, at - first) for atom, at in atoms)
         self.runs.setdefault(key, []).append((first, length, constant, c))
 
-    def joined(self):
+    def joined(self) -> tuple[list, bool]:
         """Returns the parts, with runs of the same bits joined, and whether a part was cut to the bits that count."""
         out, is_cut, mask = [], False, ones(self.width)
         for key, runs in self.runs.items():

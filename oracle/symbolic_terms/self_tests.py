@@ -12,9 +12,20 @@ from . import comparison, definition, halves, nodes, operations, reference
 from .requests import Request
 from .modular import BINARY
 from .nodes import BITS, NODES, SUM, SYMBOL, Node, most_of, symbol, values_at
-from .operations import (add, add_at, bits, both, either, monus, multiply, multiply_at, quotient, remainder,
-                         shift_right,
-                         xor)
+from .operations import (
+    add,
+    add_at,
+    bits,
+    both,
+    either,
+    monus,
+    multiply,
+    multiply_at,
+    quotient,
+    remainder,
+    shift_right,
+    xor,
+)
 from .reference import DEBIAN_PYTHON
 
 MANY_POINTS = 8
@@ -24,6 +35,7 @@ MOST_NODES = 1_000_000
 
 
 # ---- the names of the rules
+
 
 def rules_are_proved(module):
     """Checks that each rule named in this folder is the contract of a function in crates/symbolic_rules."""
@@ -38,9 +50,11 @@ def rules_are_proved(module):
 
 # ---- random operations, each compared with numbers at eight points, and laws
 
+
 def constant(rng):
-    return rng.choice((rng.getrandbits(rng.choice((3, 8, 32, 64))), 1 << rng.randrange(70),
-                       (1 << rng.randrange(1, 65)) - 1, PRIME))
+    return rng.choice(
+        (rng.getrandbits(rng.choice((3, 8, 32, 64))), 1 << rng.randrange(70), (1 << rng.randrange(1, 65)) - 1, PRIME)
+    )
 
 
 def rotated(x, k, width=64):
@@ -54,8 +68,10 @@ def turned(x):
 
 def by_halves(x, y):
     """Returns the upper and the lower word of a product, computed by the steps of halves.py."""
+
     def step(name, a, b):
         return halves.noted(name, a, b, BINARY[name](64, a, b))
+
     (a0, a1), (b0, b1) = ((bits(z, 0, 32), bits(z, 32, 32)) for z in (x, y))
     lowest = step("mul", a0, b0)
     first = step("add", step("mul", a1, b0), step("lshr", lowest, 32))
@@ -67,13 +83,23 @@ def by_halves(x, y):
 def random_operation(rng, pool):
     a, b = rng.choice(pool), rng.choice(pool) if rng.random() < 0.7 else constant(rng)
     width, k = rng.choice((8, 31, 32, 64, 64, 64, 128)), rng.randrange(70)
-    return rng.choice((
-        lambda: add(a, b), lambda: remainder(multiply(a, b), 1 << width), lambda: xor(a, b), lambda: shift_right(a, k),
-        lambda: bits(a, k, rng.randrange(1, 70)), lambda: multiply_at(width, a, b), lambda: remainder(a, 1 << width),
-        lambda: add_at(width, (constant(rng), a), (constant(rng), b), (-1, rng.choice(pool))),
-        lambda: monus(1 << max(width, most_of(a).bit_length()), a), lambda: both(a, constant(rng)),
-        lambda: rotated(bits(a, 0, width), k % width, width), lambda: turned(bits(a, 0, 64)),
-        lambda: quotient(a, 1 << k)))()
+    return rng.choice(
+        (
+            lambda: add(a, b),
+            lambda: remainder(multiply(a, b), 1 << width),
+            lambda: xor(a, b),
+            lambda: shift_right(a, k),
+            lambda: bits(a, k, rng.randrange(1, 70)),
+            lambda: multiply_at(width, a, b),
+            lambda: remainder(a, 1 << width),
+            lambda: add_at(width, (constant(rng), a), (constant(rng), b), (-1, rng.choice(pool))),
+            lambda: monus(1 << max(width, most_of(a).bit_length()), a),
+            lambda: both(a, constant(rng)),
+            lambda: rotated(bits(a, 0, width), k % width, width),
+            lambda: turned(bits(a, 0, 64)),
+            lambda: quotient(a, 1 << k),
+        )
+    )()
 
 
 def random_operations(module, rounds):
@@ -94,35 +120,48 @@ def random_operations(module, rounds):
 
 def laws(rng, message):
     """Returns pairs of equal values in two forms."""
+
     def word():
         return bits(message, 8 * rng.randrange(50), 64)
 
     def wrap(x):
         return remainder(x, 1 << 64)
+
     x, y, z, c, k = word(), word(), word(), constant(rng) % (1 << 64) | 5, rng.randrange(1, 64)
     s = wrap(add(x, multiply(y, PRIME)))
     v = xor(s, z)
     return [
         (wrap(add(wrap(add(x, y)), z)), wrap(add(x, wrap(add(y, z))))),
         (wrap(multiply(wrap(add(x, y)), c)), wrap(add(multiply(x, c), wrap(multiply(y, c))))),
-        (wrap(add(x, monus(1 << 64, x))), 0), (xor(xor(s, z), s), z), (rotated(rotated(s, k), 64 - k), s),
-        (rotated(v, k), xor(rotated(s, k), rotated(z, k))), (turned(turned(v)), v),
+        (wrap(add(x, monus(1 << 64, x))), 0),
+        (xor(xor(s, z), s), z),
+        (rotated(rotated(s, k), 64 - k), s),
+        (rotated(v, k), xor(rotated(s, k), rotated(z, k))),
+        (turned(turned(v)), v),
         (multiply_at(64, x, y), multiply_at(64, y, x)),
         (add(bits(v, 0, k), multiply(shift_right(v, k), 1 << k)), v),
         (bits(multiply(x, y), 0, 64), multiply_at(64, x, y)),
-        (wrap(add(multiply(bits(v, 0, 32), 0x85EBCA77), multiply(shift_right(v, 32), 1 << 32))),
-         wrap(add(v, multiply(bits(v, 0, 32), 0x85EBCA76)))),
+        (
+            wrap(add(multiply(bits(v, 0, 32), 0x85EBCA77), multiply(shift_right(v, 32), 1 << 32))),
+            wrap(add(v, multiply(bits(v, 0, 32), 0x85EBCA76))),
+        ),
         (monus((1 << 64) - 1, s), wrap(add(monus(1 << 64, s), (1 << 64) - 1))),
         (wrap(add(xor(x, (1 << 64) - 1), c)), wrap(add(monus((1 << 64) - 1, x), c))),
         (wrap(add(xor(z, (1 << 64) - 1), x)), wrap(add(x, monus((1 << 64) - 1, z)))),
-        (shift_right(remainder(multiply(add(multiply(s, 1 << 64), v), c), 1 << 128), 64),
-         wrap(add(shift_right(multiply(v, c), 64), multiply(s, c)))),
-        *(pair for b in (s, c | 1 << 40)     # a number whose halves are both nonzero
-          for pair in zip(by_halves(v, b), (bits(multiply(v, b), 64, 64), multiply_at(64, v, b)))),
+        (
+            shift_right(remainder(multiply(add(multiply(s, 1 << 64), v), c), 1 << 128), 64),
+            wrap(add(shift_right(multiply(v, c), 64), multiply(s, c))),
+        ),
+        *(
+            pair
+            for b in (s, c | 1 << 40)  # a number whose halves are both nonzero
+            for pair in zip(by_halves(v, b), (bits(multiply(v, b), 64, 64), multiply_at(64, v, b)))
+        ),
     ]
 
 
 # ---- the cases of the test vectors
+
 
 def asked_by(case):
     name = {entry: name for name, entry in table.HASHES.items()}[case.entry]
@@ -134,7 +173,8 @@ def asked_by(case):
 
 
 def table_cases(module):
-    """Evaluates the reference's terms at the bytes of each case: gcc's compiled code must agree with the header here."""
+    """Evaluates the reference's terms at the bytes of each case: gcc's compiled code must agree with the header
+    here."""
     cases = [case for case in map(table.Case, table.lines()) if case.length <= LONGEST_CASE]
     nodes.forget()
     terms, bad = {}, []
@@ -146,8 +186,12 @@ def table_cases(module):
         if repr(request) not in terms:
             terms[repr(request)] = reference.of_reference(request, module)
         seed = case.seed or 0
-        point = {"m": bytes(table.generated(case.start, case.length)), "seed32": seed % 2 ** 32, "seed64": seed,
-                 "s": bytes(table.generated(case.secret[1], case.secret[0])) if case.secret else b""}
+        point = {
+            "m": bytes(table.generated(case.start, case.length)),
+            "seed32": seed % 2**32,
+            "seed64": seed,
+            "s": bytes(table.generated(case.secret[1], case.secret[0])) if case.secret else b"",
+        }
         if values_at([terms[repr(request)]], point) != [case.answer]:
             bad.append(f"disagrees: {case.line}")
     return f"{len(cases)} cases of up to {LONGEST_CASE} bytes", bad
@@ -155,8 +199,8 @@ def table_cases(module):
 
 # ---- each use of a rule, checked by z3
 
-SOLVED, EACH = 16, 8     # longest tested length; step between tested operations
-SECONDS = 2              # time limit per query
+SOLVED, EACH = 16, 8  # longest tested length; step between tested operations
+SECONDS = 2  # time limit per query
 DEEPEST = 6
 
 
@@ -167,6 +211,7 @@ class Solver:
     def __init__(self):
         sys.path.append(DEBIAN_PYTHON)
         import z3
+
         self.z3, self.asked, self.bad = z3, {}, []
 
     def watch(self, name, answer, arguments):
@@ -218,12 +263,16 @@ class Solver:
 
     def meaning(self, name, arguments, width, depth, known):
         """Returns the operation on its arguments, at a width that holds the result."""
+
         def at(x, size=width):
             return self.sized(self.term(x, depth, known), size)
+
         if name == "add_at":
             modulus, coefficients, *values = arguments
-            return sum((self.number(c, modulus) * at(x, modulus) for c, x in zip(coefficients, values)),
-                       self.number(0, modulus))
+            return sum(
+                (self.number(c, modulus) * at(x, modulus) for c, x in zip(coefficients, values)),
+                self.number(0, modulus),
+            )
         if name in ("multiply_at", "complement"):
             modulus, *values = arguments
             return at(values[0], modulus) * at(values[1], modulus) if name == "multiply_at" else ~at(values[0], modulus)
@@ -239,12 +288,16 @@ class Solver:
             return self.z3.LShR(at(a, a.width), b)
         if name == "remainder" and isinstance(b, int) and not b & b - 1:
             return at(a, b.bit_length() - 1)
-        operations_of_two = {"add": lambda: at(a) + at(b), "multiply": lambda: at(a) * at(b),
-                             "monus": lambda: at(a) - at(b),
-                             "xor": lambda: at(a) ^ at(b), "either": lambda: at(a) | at(b),
-                             "both": lambda: at(a) & at(b),
-                             "remainder": lambda: self.z3.URem(at(a), at(b)),
-                             "quotient": lambda: self.z3.UDiv(at(a), at(b))}
+        operations_of_two = {
+            "add": lambda: at(a) + at(b),
+            "multiply": lambda: at(a) * at(b),
+            "monus": lambda: at(a) - at(b),
+            "xor": lambda: at(a) ^ at(b),
+            "either": lambda: at(a) | at(b),
+            "both": lambda: at(a) & at(b),
+            "remainder": lambda: self.z3.URem(at(a), at(b)),
+            "quotient": lambda: self.z3.UDiv(at(a), at(b)),
+        }
         return operations_of_two[name]()
 
     def holds(self, name, answer, arguments):

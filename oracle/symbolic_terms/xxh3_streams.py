@@ -8,6 +8,8 @@ bytes of the buffer from 192 on are the last stripe's.
 
 The secret is outside of the state, with any length, or inside, where one derived from a seed is stored. Its bytes are
 symbols: derived secrets and the default one are instances."""
+from typing import Any
+
 from . import definition, nodes
 from .definition import Bytes
 from .every_length import DEFAULT_STRIPES, SHORTEST_SECRET_STRIPES, Proof, cells_at, suppositions, xxh3_loop
@@ -21,14 +23,27 @@ from .operations import side_by_side
 from .polynomials import agree, at_most, divided, given, is_natural, is_same_number, minus, plus, Poly, times, variable
 from .reference import BESIDE
 
-LONGEST = (1 << 63) - 1      # bytes of a stream: the header takes differences of addresses as signed numbers
-FIELDS = ["accumulators", "inside", "buffer", "buffered", "uses_seed", "so_far", "total", "per_block", "limit", "seed",
-          "reserved", "outside"]
+LONGEST = (1 << 63) - 1  # bytes of a stream: the header takes differences of addresses as signed numbers
+FIELDS = [
+    "accumulators",
+    "inside",
+    "buffer",
+    "buffered",
+    "uses_seed",
+    "so_far",
+    "total",
+    "per_block",
+    "limit",
+    "seed",
+    "reserved",
+    "outside",
+]
 BUFFER, STRIPE, LAST_STRIPE = 256, 64, 192
 DEFAULT_SECRET = 192
 OK = 0
 WIDTHS = "64", "128"
 PLACES = "outside", "inside"
+Place = tuple[Any, Any, Any]  # blocks, stripes of the next one, and buffered bytes
 
 
 class Xxh3Streams(Proof):
@@ -41,7 +56,7 @@ class Xxh3Streams(Proof):
         self.size, self.place, self.source = layout.size(), place, Input("m", 0)
         self.message = Bytes(self.source, 0, 0)
         self.seed, self.uses_seed = seed_symbol("3-64"), symbol("uses_seed", 32)
-        self.is_0_8_1 = self.names is REFERENCE and bool(loops_of(module.functions["@XXH3_update"]))   # not in 0.8.3
+        self.is_0_8_1 = self.names is REFERENCE and bool(loops_of(module.functions["@XXH3_update"]))  # not in 0.8.3
         self.use_stripes(variable("q") if place == "outside" else DEFAULT_STRIPES)
 
     def use_stripes(self, q):
@@ -65,10 +80,16 @@ class Xxh3Streams(Proof):
 
     def numbers(self, b, j, f):
         """Returns the content of a state, without accumulators and buffer: (offset, size, value)."""
-        values = {"buffered": (4, f), "so_far": (8, j), "total": (8, self.bytes_of(b, j, f)), "per_block": (8, self.q),
-                  "uses_seed": (4, self.uses_seed), "seed": (8, self.seed),
-                  "limit": (8, minus(self.secret_length, STRIPE)),
-                  "outside": (8, (self.secret_source, 0) if self.place == "outside" else 0)}
+        values = {
+            "buffered": (4, f),
+            "so_far": (8, j),
+            "total": (8, self.bytes_of(b, j, f)),
+            "per_block": (8, self.q),
+            "uses_seed": (4, self.uses_seed),
+            "seed": (8, self.seed),
+            "limit": (8, minus(self.secret_length, STRIPE)),
+            "outside": (8, (self.secret_source, 0) if self.place == "outside" else 0),
+        }
         return [(self.at[name], size, x) for name, (size, x) in values.items()]
 
     def run(self, low, high, place):
@@ -100,8 +121,9 @@ class Xxh3Streams(Proof):
         accumulators = self.symbols_after(k, lambda i: self.after(i, k), 8, 64)
         cells = self.numbers(b, j, f) + [(self.at["accumulators"] + 8 * i, 8, x) for i, x in enumerate(accumulators)]
         buffer = self.at["buffer"]
-        return Memory("state", self.size, cells, [*self.secret_runs(), *runs], run_area=(buffer, buffer + BUFFER),
-                      alignment=64)
+        return Memory(
+            "state", self.size, cells, [*self.secret_runs(), *runs], run_area=(buffer, buffer + BUFFER), alignment=64
+        )
 
     def expect_state(self, what, memory, b, j, f, runs):
         accumulators = [(self.at["accumulators"] + 8 * i, 8, self.after(i, self.stripes(b, j))) for i in range(8)]
@@ -123,7 +145,7 @@ class Xxh3Streams(Proof):
             raise NotShown("two updates")
         self.module.called.add(both[0].name)
 
-    def update(self, start, end, runs, expected, facts, blocks=None):
+    def update(self, start: Place, end: Place, runs, expected, facts, blocks=None):
         """Proves an update by one chunk from a state (b, j, f) to another. `blocks` describes the loop over blocks."""
         begun, ended = self.bytes_of(*start), self.bytes_of(*end)
         length, rest = minus(ended, begun), variable("rest")
@@ -137,8 +159,12 @@ class Xxh3Streams(Proof):
             self.module.loops.describers[self.names.stripes] = self.of_stripes
             if blocks:
                 self.module.loops.describers.update(dict.fromkeys(self.names.update_blocks, blocks))
-            if self.module.call("@XXH_INLINE_XXH3_128bits_update",
-                                [(memory, 0), (Piece(self.source, begun, length), 0), length]) != OK:
+            if (
+                self.module.call(
+                    "@XXH_INLINE_XXH3_128bits_update", [(memory, 0), (Piece(self.source, begun, length), 0), length]
+                )
+                != OK
+            ):
                 raise NotShown("an update answers an error")
             self.expect_some_stripes(start, end)
             for more, end_runs in expected:
@@ -163,7 +189,7 @@ class Xxh3Streams(Proof):
     def of_stripes(self, function, registers):
         """Describes the loop over stripes if their number is symbolic. At a block's end, the last iteration includes
         the scramble."""
-        count = registers.get(self.names.count)
+        count = registers.get(self.names.stripe_count)
         if not isinstance(count, Poly):
             return None
         piece, at = registers[self.names.input]
@@ -171,17 +197,24 @@ class Xxh3Streams(Proof):
         secret, place = registers[self.names.secret]
         position = divided(minus(place, self.at["inside"] if self.place == "inside" else 0), 8)[0]
         is_whole = is_same_number(plus(position, count), self.q)
-        return xxh3_loop(self.after, "stripes", minus(count, int(is_whole)), cells_at(registers[self.names.array]),
-                         lambda k: plus(first, k))
+        return xxh3_loop(
+            self.after,
+            "stripes",
+            minus(count, int(is_whole)),
+            cells_at(registers[self.names.array]),
+            lambda k: plus(first, k),
+        )
 
     def loop(self, name, last, place, then=None):
         """Describes a loop of an update: after k iterations the accumulators are the words after place(k) stripes."""
+
         def describe(function, registers):
             memory = self.module.live[len(self.module.globals)]
             cells = cells_at((memory, self.at["accumulators"]))
             out = xxh3_loop(self.after, name, last, cells, place)
             out.then = then(function, registers) if then else None
             return out
+
         return describe
 
     def updates(self):
@@ -223,8 +256,9 @@ class Xxh3Streams(Proof):
         """Proves updates that take the buffer's stripes, and store the rest of the chunk in the buffer."""
         R = variable("R")
         if not is_same_number(start[2], 0):
-            self.update(start, (b, j, R), self.buffered(*start), self.ends(b, j, R),
-                        [*facts, minus(R, 1), at_most(R, BUFFER)])
+            self.update(
+                start, (b, j, R), self.buffered(*start), self.ends(b, j, R), [*facts, minus(R, 1), at_most(R, BUFFER)]
+            )
 
     # ---- chunks of which more is left than fits in the buffer: release 0.8.3
 
@@ -242,19 +276,28 @@ class Xxh3Streams(Proof):
             for last, of_last in ((0, []), (e, [minus(e, 1), at_most(e, minus(self.q, 1))])):
                 S = plus(minus(self.q, j), times(self.q, blocks), last)
                 end = plus(b, 1, blocks), last, plus(1, h)
-                self.update(start, end, self.buffered(*start), self.ends(*end),
-                            [*facts, *of_blocks, *of_last, minus(S, 4), at_most(h, 63)], self.loop_over_blocks(b, blocks))
+                self.update(
+                    start,
+                    end,
+                    self.buffered(*start),
+                    self.ends(*end),
+                    [*facts, *of_blocks, *of_last, minus(S, 4), at_most(h, 63)],
+                    self.loop_over_blocks(b, blocks),
+                )
 
     def loop_over_blocks(self, b, blocks):
         """Describes the loop over blocks of an update. In the reference, its first iteration ends the block of the
         state. In c/include/xxhash.h it comes after that, and isn't described if the number of stripes is a number."""
+
         def place(k):
             return times(self.q, plus(b, 1, k))
+
         if self.names is REFERENCE:
             return at_second_time(self.loop("an update's blocks", minus(variable("D"), 1), place))
         describe = self.loop("an update's blocks", blocks, place)
         return lambda function, registers: (
-            describe(function, registers) if isinstance(registers.get(self.names.count), Poly) else None)
+            describe(function, registers) if isinstance(registers.get(self.names.stripe_count), Poly) else None
+        )
 
     # ---- the same: release 0.8.1
 
@@ -264,8 +307,14 @@ class Xxh3Streams(Proof):
         S = plus(minus(self.q, j), times(self.q, D), e)
         end = plus(b, 1, D), e, plus(1, h)
         more = [minus(S, self.q), at_most(h, 63), at_most(e, minus(self.q, 1))]
-        self.update(start, end, self.buffered(*start), self.ends(*end), [*facts, *more],
-                    self.loop("an update's blocks", D, lambda k: times(self.q, plus(b, 1, k))))
+        self.update(
+            start,
+            end,
+            self.buffered(*start),
+            self.ends(*end),
+            [*facts, *more],
+            self.loop("an update's blocks", D, lambda k: times(self.q, plus(b, 1, k))),
+        )
 
     def of_buffers(self, T):
         """Returns the facts if T times the buffer's length is taken, and h bytes are left: at most a block together."""
@@ -277,21 +326,38 @@ class Xxh3Streams(Proof):
         T, h = variable("T"), variable("h")
         end = b, plus(j, times(4, T)), h
         more = [*self.of_buffers(T), minus(T, 1), minus(minus(self.q, 1), end[1])]
-        self.update_by_ends(start, end, self.buffered(*start), [*facts, *more],
-                            self.loop("four stripes", minus(T, 1), lambda k: plus(self.stripes(b, j), times(4, k))))
+        self.update_by_ends(
+            start,
+            end,
+            self.buffered(*start),
+            [*facts, *more],
+            self.loop("four stripes", minus(T, 1), lambda k: plus(self.stripes(b, j), times(4, k))),
+        )
 
     def by_buffers_over_an_end(self):
         """Proves 4 K stripes in a block, four of which c end it, and 4 M stripes of the next block."""
         M, h, whole = variable("M"), variable("h"), self.q
         for start, facts, b, j, K, c, goes_on in self.starts_before_an_end():
             first = self.stripes(b, j)
-            for times_more, of_more in ((0, []), (M, [minus(M, 1)]))[:1 + goes_on]:
+            for times_more, of_more in ((0, []), (M, [minus(M, 1)]))[: 1 + goes_on]:
                 end = plus(b, 1), plus(4 - c, times(4, times_more)), h
-                behind = None if is_same_number(times_more, 0) else self.loop(
-                    "four stripes behind", minus(M, 1), lambda k: plus(times(self.q, plus(b, 1)), 4 - c, times(4, k)))
+                behind = (
+                    None
+                    if is_same_number(times_more, 0)
+                    else self.loop(
+                        "four stripes behind",
+                        minus(M, 1),
+                        lambda k: plus(times(self.q, plus(b, 1)), 4 - c, times(4, k)),
+                    )
+                )
                 describe = self.loop("four stripes to the next block", K, lambda k: plus(first, times(4, k)), behind)
-                self.update_by_ends(start, end, self.buffered(*start),
-                                    [*facts, *of_more, *self.of_buffers(plus(K, 1, times_more))], describe)
+                self.update_by_ends(
+                    start,
+                    end,
+                    self.buffered(*start),
+                    [*facts, *of_more, *self.of_buffers(plus(K, 1, times_more))],
+                    describe,
+                )
         self.use_stripes(whole)
 
     def starts_before_an_end(self):
@@ -302,10 +368,10 @@ class Xxh3Streams(Proof):
         for c in range(1, 5):
             j = minus(whole, plus(times(4, K), c))
             yield (b, minus(j, 4), f), [*there, minus(j, 4)], b, j, K, c, True
-        if not isinstance(whole, Poly) and whole % 4 == 0:   # for i < c <= 4, 4 - i stripes, 4 K and c make no block
+        if not isinstance(whole, Poly) and whole % 4 == 0:  # for i < c <= 4, 4 - i stripes, 4 K and c make no block
             return
         for i in range(1, 5):
-            for c in range(i + 1, 5):       # otherwise a block or more is taken
+            for c in range(i + 1, 5):  # otherwise a block or more is taken
                 self.use_stripes(plus(times(4, K), 4 - i + c))
                 yield (b, minus(self.q, i), f), there, plus(b, 1), 4 - i, K, c, False
 
@@ -363,8 +429,9 @@ class Xxh3Streams(Proof):
         """Proves that each reset creates a state of 0 bytes. A seed's secret is derived, unless the state has it
         already. The seed 0 counts as no seed."""
         seed, default = seed_symbol("3-64"), (self.module.globals[self.names.default_secret], 0)
-        if [default[0].load(k, 1) for k in range(DEFAULT_SECRET)] != list(self.texts["default_secret"]()) \
-                or self.texts["derived_secret"](0) != self.texts["default_secret"]():
+        if [default[0].load(k, 1) for k in range(DEFAULT_SECRET)] != list(self.texts["default_secret"]()) or self.texts[
+            "derived_secret"
+        ](0) != self.texts["default_secret"]():
             raise NotShown("another default secret")
         own = (self.secret_source, 0), self.secret_length
         for width in WIDTHS:
@@ -383,8 +450,9 @@ class Xxh3Streams(Proof):
         """Proves a reset of a state with the seed `seed_before`, and a secret inside."""
         derived = [self.texts["word64"](self.texts["derived_secret"](seed), 8 * i) for i in range(DEFAULT_SECRET // 8)]
         inside = [(self.at["inside"] + 8 * i, 8, x) for i, x in enumerate(derived)]
-        memory = Memory("state", self.size, [(self.at["seed"], 8, seed_before), (self.at["outside"], 8, 0)],
-                        alignment=64)
+        memory = Memory(
+            "state", self.size, [(self.at["seed"], 8, seed_before), (self.at["outside"], 8, 0)], alignment=64
+        )
         self.prepare({}, [memory])
         if seed_before is seed and outside == 0:
             memory.cells.update({at: (size, x) for at, size, x in inside})
@@ -402,8 +470,11 @@ class Xxh3Streams(Proof):
 
     def reset_numbers(self, outside, secret_length):
         """Returns the content of an empty state, whose secret is at `outside`, or inside if that is 0."""
-        others = {"outside": outside, "limit": minus(secret_length, STRIPE),
-                  "per_block": divided(minus(secret_length, STRIPE), 8)[0]}
+        others = {
+            "outside": outside,
+            "limit": minus(secret_length, STRIPE),
+            "per_block": divided(minus(secret_length, STRIPE), 8)[0],
+        }
         cells = [cell for cell in self.numbers(0, 0, 0) if cell[0] not in [self.at[name] for name in others]]
         accumulators = [(self.at["accumulators"] + 8 * i, 8, self.after(i, 0)) for i in range(8)]
         return cells + [(self.at[name], 8, x) for name, x in others.items()] + accumulators
@@ -418,6 +489,7 @@ def at_second_time(describe):
             return describe(function, registers)
         seen.append(registers)
         return None
+
     return again
 
 

@@ -3,6 +3,7 @@ random generator, which it doesn't use, and raises Wrong."""
 import itertools
 import types
 import unittest.mock
+from typing import Any
 
 from oracle.machine_code import coverage, xxh3_states, xxh3_updates
 from oracle.machine_code.memory import ENTRY, Stack, WordMemory
@@ -105,6 +106,11 @@ def long_update(proof, case, is_lost, calls=1, is_long=None, seen=(), after=()):
 
 def whole_updates(_):
     """Tests that an update by a chunk that doesn't fit is one call, and only changes the total."""
+    case: Any
+    change: Any
+    is_lost: Any
+    proof: Any
+    what: Any
     for proof_class in (xxh3_states.OwnSecret, xxh3_states.CallersSecret):
         proof = proof_class(processors.new_processor())
         total, count = {proof.at.total_bytes: (8, 7)}, {proof.at.count: (8, 1)}
@@ -126,6 +132,8 @@ def whole_updates(_):
 
 def resets(_):
     """Tests the arguments of resets, and that only a seed for a derived secret is assumed to be nonzero."""
+
+    proof: Any
 
     class Asked(Exception):
         pass

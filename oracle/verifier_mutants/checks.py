@@ -10,13 +10,34 @@ import random
 import re
 import tempfile
 import unittest.mock
+from typing import Any
 
 from assembly import same_bytes
-from oracle.machine_code import (any_secret, any_updates, calls, cargo_exports, cargo_streams, cargo_tasks,
-                                 coverage, disabled_checks,
-                                 disassembly, every_length, exports, instructions, long_seeds, object_contents, on_processor, one_shots, planted,
-                                 planted_values, sources, streams,
-                                 tasks, xxh3_states, xxh3_updates)
+from oracle.machine_code import (
+    any_secret,
+    any_updates,
+    calls,
+    cargo_exports,
+    cargo_streams,
+    cargo_tasks,
+    coverage,
+    disabled_checks,
+    disassembly,
+    every_length,
+    exports,
+    instructions,
+    long_seeds,
+    object_contents,
+    on_processor,
+    one_shots,
+    planted,
+    planted_values,
+    sources,
+    streams,
+    tasks,
+    xxh3_states,
+    xxh3_updates,
+)
 from oracle.machine_code.cargo import CargoProcessor, CargoProgram
 from oracle.machine_code.grammar import expect_grammar
 from oracle.machine_code.instructions import V1, V2, V3, V4
@@ -32,7 +53,7 @@ from .values import Wrong
 # Where a check belongs: values, the processor, sources that must pass, planted files.
 Check = collections.namedtuple("Check", "title type ask")
 VALUES, BESIDE, RIGHT, PLANTED = "value", "processor", "right", "planted"
-GROUP = 12                        # instruction forms of a check
+GROUP = 12  # instruction forms of a check
 C, CARGO = os.path.join(TOP, "c", "asm"), os.path.join(TOP, "rust", "asm")
 LENGTHS = 0, 3, 7, 13, 40, 100, 200, 300
 CUTS = [(40, 5), (300, 64, 192), (600, 512, 599), (1100, 64)]
@@ -82,9 +103,11 @@ class Sources:
 
 # ---- the processor
 
+
 def beside_processor(known, first):
     """Compares some instructions with the processor: their semantics, on the functions that were assembled before."""
     import ctypes
+
     library, program, lines, _ = known.snippets
     cpu, rng = Processor(program, on_processor.processor_here()), random.Random(first)
     whole = ctypes.create_string_buffer(on_processor.SIZE + 64)
@@ -108,6 +131,7 @@ def forms_that_differ(known):
 
 # ---- sources that must pass
 
+
 def expect_none(bad):
     if bad:
         raise Wrong(str(bad[0])[:200])
@@ -116,7 +140,8 @@ def expect_none(bad):
 def requests(known, name, algorithm, lengths, cuts=()):
     side = streams if cuts else one_shots
     asked = []
-    for n, own in [(n, list(own)) for n, *own in cuts] or [(n, None) for n in lengths]:
+    ends: list[tuple[int, Any]] = [(n, list(own)) for n, *own in cuts]
+    for n, own in ends or [(n, None) for n in lengths]:
         one = Request(algorithm[0], algorithm[1], n, algorithm[2], cuts=own)
         asked += [one, *one.with_seed_0()]
     _, bad = comparison.compare({name: functools.partial(side.of_text, known.processor(name))}, asked)
@@ -132,8 +157,11 @@ def of_updates(known, name, proof_class=any_updates.AnyUpdates, hash_name="64", 
     cases = [one for one in any_updates.updates(hash_name)]
     some = [cases[5], cases[-1], cases[len(cases) // 2], next(one for one in cases if one.more)]
     asked = [functools.partial(ask, one) for one in some for ask in (proof.update, proof.lost_total)]
-    asked += [proof.reset, functools.partial(proof.digest, variable("a"), 3), functools.partial(proof.digest, 0,
-                                                                5)] if has_ends else []
+    asked += (
+        [proof.reset, functools.partial(proof.digest, variable("a"), 3), functools.partial(proof.digest, 0, 5)]
+        if has_ends
+        else []
+    )
     shown(tasks.count_shown(proof, asked))
 
 
@@ -141,25 +169,37 @@ def of_program(known, name):
     """Reads a source's object again."""
     program = known.read(f"{C}/{name}.s", Program)
     before = known.programs[name]
-    if program.sections != before.sections or program.exports != before.exports or program.constants != before.constants:
+    if (
+        program.sections != before.sections
+        or program.exports != before.exports
+        or program.constants != before.constants
+    ):
         raise Wrong("another program")
 
 
 def same_objects(known):
     first, second = (known.path(f"{CARGO}/{name}.s") for name in (V1, V3))
-    if not same_bytes.Object(first).parts() or list(same_bytes.differences(same_bytes.Object(first).parts(),
-                                                                same_bytes.Object(first).parts(),
-                                                                same_bytes.difference)):
+    if not same_bytes.Object(first).parts() or list(
+        same_bytes.differences(
+            same_bytes.Object(first).parts(), same_bytes.Object(first).parts(), same_bytes.difference
+        )
+    ):
         raise Wrong("an object that differs from itself")
-    if not list(same_bytes.differences(same_bytes.Object(first).parts(), same_bytes.Object(second).parts(),
-                                       same_bytes.difference)):
+    if not list(
+        same_bytes.differences(
+            same_bytes.Object(first).parts(), same_bytes.Object(second).parts(), same_bytes.difference
+        )
+    ):
         raise Wrong("two objects are the same")
 
 
 def each_symbol(known):
     """Tests that each symbol of an object is compared with the list."""
+    found: Any
     object_, found = object_contents.Object(known.path(f"{C}/{V2}.s")), []
-    with unittest.mock.patch.object(object_contents, "expect_symbol", lambda _, symbol, *others: found.append(symbol) or set()):
+    with unittest.mock.patch.object(
+        object_contents, "expect_symbol", lambda _, symbol, *others: found.append(symbol) or set()
+    ):
         values.refuses(lambda: object_contents.expect_listed(object_, Program.EXPORT), "sections without a symbol")
     values.expect(len(found), len(object_.symbols) - 1, "symbols")
 
@@ -172,7 +212,7 @@ def complete_cases(known):
         asked = every_length.cases(algorithm)
         for k in (0, len(asked) // 2, len(asked) - 1):
             period = 1024 if algorithm.startswith("3") else int(algorithm) // 2 * every_length.UNROLLED[algorithm]
-            if not every_length.left_out(asked[:k] + asked[k + 1:], 1101, period):
+            if not every_length.left_out(asked[:k] + asked[k + 1 :], 1101, period):
                 raise Wrong("a case that isn't missed")
 
 
@@ -206,8 +246,13 @@ def of_any_secret(known, name):
 
 def right_checks(known):
     """Yields the checks of committed sources."""
+
+    algorithm: Any
+    cases: Any
+
     def one(title, ask, *arguments, **more):
         return Check(title, RIGHT, functools.partial(ask, known, *arguments, **more))
+
     for algorithm in comparison.algorithms((136,)):
         yield one(f"one-shots of {comparison.title_of(*algorithm)}", requests, V2, algorithm, LENGTHS)
     for algorithm in (("32", "seed", None), ("64", "seed", None), ("3-64", "seed", None), ("3-128", "both", 136)):
@@ -217,20 +262,34 @@ def right_checks(known):
     for name, count, call in [*calls.OTHERS, *calls.SHORT_SECRETS]:
         yield Check(name, RIGHT, lambda call=call, count=count: expect_count(call(known.processor(V2)), count))
     for title, count, call in cargo_tasks.refusal_tasks(lambda *of_task: of_task):
-        yield Check(f"cargo: {title}", RIGHT, lambda call=call, count=count: expect_count(call(known.processor("cargo")), count))
+        yield Check(
+            f"cargo: {title}", RIGHT, lambda call=call, count=count: expect_count(call(known.processor("cargo")), count)
+        )
     yield Check("a state without a run", RIGHT, lambda: inductions.lost_runs(known.processor(V2)))
     yield Check("the last stripe in a buffer", RIGHT, lambda: inductions.last_stripes(known.processor(V2)))
     yield Check("places of x86-64-v4", RIGHT, lambda: inductions.places_of_v4(known.processor(V4)))
-    yield Check("secrets of 2^32 bytes", RIGHT, lambda: long_seeds.generated_secrets(known.processor(V2),
-                                                                tasks.OF_LONG_SEEDS))
+    yield Check(
+        "secrets of 2^32 bytes", RIGHT, lambda: long_seeds.generated_secrets(known.processor(V2), tasks.OF_LONG_SEEDS)
+    )
     yield one("cargo: long inputs", requests, "cargo", ("3-64", "secret", 136), (241, 300, 700))
     yield one("updates of XXH64", of_updates, V2)
-    yield Check("a task of updates", RIGHT, lambda: shown(tasks.any_streams(lambda: known.processor(V2), "32", None, 3000, True)))
+    yield Check(
+        "a task of updates",
+        RIGHT,
+        lambda: shown(tasks.any_streams(lambda: known.processor(V2), "32", None, 3000, True)),
+    )
     yield one("updates of XXH32", of_updates, V2, hash_name="32")
     yield one("cargo: chunks of XXH32", of_updates, "cargo", hash_name="32", has_ends=False)
     for proof_class in xxh3_states.PROOFS:
         for what in proof_class.TASKS:
-            yield one(f"{proof_class.TITLE}: {what}", xxh3_cases, V2, what, 2 if what == xxh3_updates.STRIPES else 6, proof_class=proof_class)
+            yield one(
+                f"{proof_class.TITLE}: {what}",
+                xxh3_cases,
+                V2,
+                what,
+                2 if what == xxh3_updates.STRIPES else 6,
+                proof_class=proof_class,
+            )
     yield one("XXH3 by x86-64-v4", xxh3_cases, V4, xxh3_updates.STRIPES, 2)
     for proof_class in cargo_streams.PROOFS:
         yield one(f"cargo: {proof_class.TITLE}", xxh3_cases, "cargo", xxh3_updates.UPDATES, 4, proof_class=proof_class)
@@ -240,21 +299,35 @@ def right_checks(known):
     yield one("any secret", of_any_secret, V2)
     yield Check("any length to 240 bytes", RIGHT, lambda: shown(tasks.count_shown(*of_short(known))))
     yield Check("exports", RIGHT, lambda: exports.expect_all(known.programs[V2], exports.shown_by().values()))
-    yield Check("exports without a task", RIGHT, lambda: values.refuses(
-        lambda: exports.expect_all(known.programs[V2], [*exports.shown_by().values()][1:]), "an export without a task",
-        REFUSALS))
+    yield Check(
+        "exports without a task",
+        RIGHT,
+        lambda: values.refuses(
+            lambda: exports.expect_all(known.programs[V2], [*exports.shown_by().values()][1:]),
+            "an export without a task",
+            REFUSALS,
+        ),
+    )
     yield Check("twins", RIGHT, lambda: exports.expect_twins(known.programs[V2]))
     yield Check("code of x86-64-v3", RIGHT, lambda: exports.expect_code_of_v3(known.programs[V4], known.programs[V3]))
-    yield Check("cargo: exports", RIGHT, lambda: expect_none(cargo_exports.exports_left_out(
-        {"cargo's x86-64": known.programs["cargo"]}, [*cargo_exports.shown_by().values()])[1]))
+    yield Check(
+        "cargo: exports",
+        RIGHT,
+        lambda: expect_none(
+            cargo_exports.exports_left_out(
+                {"cargo's x86-64": known.programs["cargo"]}, [*cargo_exports.shown_by().values()]
+            )[1]
+        ),
+    )
     yield Check("frames", RIGHT, lambda: expect_frames(known.programs["cargo"]))
     yield Check("the grammar", RIGHT, lambda: expect_grammar(f"{CARGO}/{V1}.s", V1))
     yield one("an object", of_program, V3)
     yield Check("bytes of instructions", RIGHT, lambda: disassembly.expect_bytes(known.programs["cargo"]))
     yield one("same objects", same_objects)
     yield one("each symbol of an object", each_symbol)
-    yield Check("changed objects", RIGHT, lambda: objects.changed_objects(known.path(f"{CARGO}/{V1}.s"),
-                                                                random.Random(1)))
+    yield Check(
+        "changed objects", RIGHT, lambda: objects.changed_objects(known.path(f"{CARGO}/{V1}.s"), random.Random(1))
+    )
     yield one("each length has its case", complete_cases)
     yield one("each update has its case", complete_updates)
     yield one("the forms of instructions", forms_that_differ)
@@ -272,6 +345,7 @@ def expect_count(actual, expected):
 
 # ---- planted files
 
+
 def refused(one):
     try:
         one.ask()
@@ -288,10 +362,15 @@ def planted_checks():
         yield Check(one.title, VALUES if one in planted_values.ASKED else PLANTED, functools.partial(refused, one))
 
 
+def with_numbers(test):
+    """Runs a test of values, with the same random numbers each time."""
+    test(random.Random(1))
+
+
 def value_checks(known):
     for test in [*values.ALL, *edges.ALL, *inductions.ALL, *objects.ALL, *processors.ALL]:
-        yield Check(f"{test.__module__.rpartition('.')[2]}: {test.__name__}", VALUES, functools.partial(test,
-                                                                random.Random(1)))
+        title = f"{test.__module__.rpartition('.')[2]}: {test.__name__}"
+        yield Check(title, VALUES, functools.partial(with_numbers, test))
     for first in range(0, len(known.snippets[2]), GROUP):
         yield Check(f"instructions from {first}", BESIDE, functools.partial(beside_processor, known, first))
 

@@ -7,6 +7,7 @@ import os
 import re
 import types
 import unittest.mock
+from typing import Any
 
 from oracle.machine_code import (
     any_secret,
@@ -60,7 +61,7 @@ patched = unittest.mock.patch.object
 def tasks_with(is_all):
     """Returns the tasks on both folders of sources, with their minimum numbers of cases."""
     texts, others = dict.fromkeys(tasks.NAMES), dict.fromkeys(f"cargo's {name}" for name in cargo_tasks.NAMES)
-    with patched(tasks, "counted", lambda title, least, ask: types.SimpleNamespace(title=title, least=least)), patched(
+    with patched(tasks, "counted", lambda title, least, *_: types.SimpleNamespace(title=title, least=least)), patched(
         tasks, "makers", dict.fromkeys
     ):
         return [*tasks.choose(types.SimpleNamespace(all=is_all), texts), *cargo_tasks.choose(others, texts, is_all)]
@@ -100,7 +101,7 @@ def outcomes(_):
         (4, ["a fault"], False),
         (2, ["a fault"], False),
     ):
-        message, faults = tasks.counted("a task", 3, lambda count=count, bad=bad: (count, bad)).ask()
+        message, faults = tasks.counted("a task", 3, lambda count, bad: (count, bad), count, bad).ask()
         expect(not faults, is_right, f"a task with {count} cases")
         expect(message == f"{count} cases" and (not bad or faults == bad), True, "the output of a task")
 
@@ -176,6 +177,7 @@ def parts_of_updates(_):
 
 def cases_of_lengths(_):
     """Tests that tasks of lengths ask each of their cases, and tasks of requests each request of each source."""
+    found: Any
     asked = []
 
     def new_proof(_, algorithm):
@@ -214,6 +216,8 @@ def shown_cases(_):
 
 def messages(_):
     """Tests that tasks of completeness report what is left out."""
+    counts: Any
+    found: Any
     expect(
         tasks.report_left_out({"a": [], "b": [1, 2], "c": [*range(9)]})
         == (3, ["b: no task has [1, 2]", "c: no task has [0, 1, 2, 3, 4]"]),
@@ -308,6 +312,7 @@ def each_update(_):
 
 def proved_updates(_):
     """Tests the stripes and facts of each update's proof, also with a total that becomes 2^64 - 1."""
+    proof: Any
     proof, asked = any_updates.AnyUpdates(processors.new_processor(), "64"), []
     proof.update_between = lambda *of: asked.append(of)
     a, d = variable("a"), variable("d")
@@ -338,6 +343,10 @@ def edges_of_blocks(_):
 
 def queries(_):
     """Tests that each kind of proof asks all of its cases: of chunks, resets, digests and stripes."""
+    large: Any
+    proof: Any
+    small: Any
+    updates: Any
     small, large = ("start", "end", 5, []), ("start", "end", 700, [], "parts")
     for proof_class in (*xxh3_states.PROOFS, *cargo_streams.PROOFS):
         proof = proof_class(processors.new_processor())
@@ -377,7 +386,10 @@ def chunks(_):
         large = [(*place, f, length, facts) for place, f, length, facts, _ in proof.long_pieces()]
         for q, u, b, j, f, L in coverage.points(150, proof):
             is_small = f + L <= proof.capacity
-            point = {**coverage.variables(q, u, b, j, f, L), **({} if is_small else {"n": L - (proof.capacity + 1 - f)})}
+            point = {
+                **coverage.variables(q, u, b, j, f, L),
+                **({} if is_small else {"n": L - (proof.capacity + 1 - f)}),
+            }
             if not any(
                 coverage.has(point, [*facts, *proof.facts], [*zip(case, (b, j, f, L))])
                 for *case, facts in (small if is_small else large)
@@ -433,6 +445,7 @@ def whole_digests(_):
 
 def cases_of_chunks(_):
     """Tests that all updates are those by chunks that fit, and by others that take no stripes, some or many."""
+    proof: Any
     proof = xxh3_states.Through(processors.new_processor())
     proof.small_pieces = lambda: iter(["small"])
     proof.pieces = lambda to, begin, lefts: iter([(to, any(one is EMPTY for one in begin))])
@@ -457,6 +470,7 @@ def short_secrets(_):
 
 def refused_secrets(_):
     """Tests that a generated secret needs the code of success."""
+    proof: Any
     proof = long_seeds.LongSeeds(processors.new_processor())
     proof.proved = lambda *_: (1, 0)
     refuses(lambda: proof.show(137), "a refused secret", (Unsupported,))
@@ -464,6 +478,15 @@ def refused_secrets(_):
 
 def several_updates(_):
     """Tests that an update is also proved with totals and counts of stripes that become 2^64 - 1."""
+    ask: Any
+    cases: Any
+    expected: Any
+    f: Any
+    length: Any
+    lost: Any
+    of_counts: Any
+    parts: Any
+    proof: Any
     proof, asked = xxh3_updates.Xxh3Updates(processors.new_processor()), []
     proof.update = lambda *case, lost=(): asked.append((case, lost))
     part, none, lost = xxh3_updates.Part(0, 5, 5), xxh3_updates.Part(5, 0, 5), variable("lost")
@@ -585,12 +608,8 @@ def copied_states(_):
 def ends_of_streams(_):
     """Tests that only tasks of XXH32 and XXH64 have resets and digests."""
     for names, is_all in itertools.product((("32", "64"), ("32",)), (False, True)):
-        with patched(tasks, "counted", lambda title, least, ask: ask):
-            asked = [
-                ask.args
-                for ask in tasks.plain_stream_tasks({"a": "made"}, is_all, 50, "{}", names)
-                if hasattr(ask, "args")
-            ]
+        with patched(tasks, "counted", lambda title, least, ask, *arguments: arguments):
+            asked = [*filter(None, tasks.plain_stream_tasks({"a": "made"}, is_all, 50, "{}", names))]
         parts = range(tasks.UPDATE_PARTS) if is_all else [None]
         expect(
             asked == [("made", name, part, 50, len(names) > 1) for name in names for part in parts],

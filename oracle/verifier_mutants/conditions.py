@@ -2,14 +2,30 @@
 bound. Each takes a random generator, which it doesn't use, and raises Wrong."""
 import types
 import unittest.mock
+from typing import Any
 
 from oracle.machine_code import flags, values
 from oracle.machine_code.flags import Flags
 from oracle.machine_code.memory import ENTRY, Stack, WordMemory
 from oracle.machine_code.values import Address, Either, address, arithmetic
-from oracle.symbolic_terms import (Input, Undecided, WrongRule, at_most, given, is_same_number, lifted, minus,
-    nodes, operations,
-                                   plus, polynomials, symbol, times, value_at, variable)
+from oracle.symbolic_terms import (
+    Input,
+    Undecided,
+    WrongRule,
+    at_most,
+    given,
+    is_same_number,
+    lifted,
+    minus,
+    nodes,
+    operations,
+    plus,
+    polynomials,
+    symbol,
+    times,
+    value_at,
+    variable,
+)
 
 from .values import expect, refuses, value_of
 
@@ -38,17 +54,29 @@ def orders_of_terms(_):
     """Tests each unsigned condition of terms that their bounds decide, in both orders."""
     byte, other, n = symbol("a byte", 8), symbol("another byte", 8), variable("n")
     with given(minus(n, 5), at_most(n, 100)):
-        shifted = arithmetic("lshr", 64, plus(n, 3), 2)          # 2 to 25
+        shifted = arithmetic("lshr", 64, plus(n, 3), 2)  # 2 to 25
         for a, b, is_below, is_equal in (
-                (byte, 256, True, None), (byte, 300, True, None), (byte, 255, None, None), (256, byte, False, None),
-                (300, byte, False, None), (byte, other, None, None), (byte, byte, False, True), (shifted, 26, True,
-                    None),
-                (shifted, 25, None, None), (shifted, 2, False, None), (shifted, 3, None, None), (1, shifted, True,
-                    None),
-                (2, shifted, None, None), (25, shifted, False, None), (24, shifted, None, None), (shifted, byte, None,
-                    None),
-                (byte, shifted, None, None), (n, byte, None, None), (n, lifted(n), False, True), (lifted(n), n, False,
-                    True)):
+            (byte, 256, True, None),
+            (byte, 300, True, None),
+            (byte, 255, None, None),
+            (256, byte, False, None),
+            (300, byte, False, None),
+            (byte, other, None, None),
+            (byte, byte, False, True),
+            (shifted, 26, True, None),
+            (shifted, 25, None, None),
+            (shifted, 2, False, None),
+            (shifted, 3, None, None),
+            (1, shifted, True, None),
+            (2, shifted, None, None),
+            (25, shifted, False, None),
+            (24, shifted, None, None),
+            (shifted, byte, None, None),
+            (byte, shifted, None, None),
+            (n, byte, None, None),
+            (n, lifted(n), False, True),
+            (lifted(n), n, False, True),
+        ):
             cpu = after("sub", a, b)
             decided("b", cpu, is_below, (a, b))
             decided("ae", cpu, None if is_below is None else not is_below, (a, b))
@@ -64,16 +92,34 @@ def orders_of_terms(_):
 
 def results_of_two(_):
     """Tests that conditions of both flags use the last result, and the last carry of another one."""
-    for (a, b), (c, d), is_either in (((5, 3), (1, 2), True), ((5, 3), (2, 1), False), ((3, 3), (2, 1), True),
-            ((3, 5), (2, 1), False)):
+    for (a, b), (c, d), is_either in (
+        ((5, 3), (1, 2), True),
+        ((5, 3), (2, 1), False),
+        ((3, 3), (2, 1), True),
+        ((3, 5), (2, 1), False),
+    ):
         cpu = processor(Flags("sub", 64, a, b, None), Flags("sub", 64, c, d, None))
         decided("be", cpu, is_either, "two results")
         decided("a", cpu, not is_either, "two results")
-    for proof_class, is_signed in (("sub", True), ("logic", True), ("add", False), ("shift", False), ("step", False),
-            ("borrow", False)):
-        decided("l", after(proof_class, 1, 2, 3), {"sub": True, "logic": False}.get(proof_class) if is_signed else None, proof_class)
-    for a, b, result, proof_class in ((symbol("s64", 64), 1, None, "sub"), (1, symbol("s64", 64), None, "sub"), (1, 1,
-            symbol("s64", 64), "logic")):
+    for proof_class, is_signed in (
+        ("sub", True),
+        ("logic", True),
+        ("add", False),
+        ("shift", False),
+        ("step", False),
+        ("borrow", False),
+    ):
+        decided(
+            "l",
+            after(proof_class, 1, 2, 3),
+            {"sub": True, "logic": False}.get(proof_class) if is_signed else None,
+            proof_class,
+        )
+    for a, b, result, proof_class in (
+        (symbol("s64", 64), 1, None, "sub"),
+        (1, symbol("s64", 64), None, "sub"),
+        (1, 1, symbol("s64", 64), "logic"),
+    ):
         decided("ge", after(proof_class, a, b, result), None, "symbols")
     for name in ("", "p", "o", "c", "nz"):
         decided(name, after("sub", 1, 2), None, "an unknown condition")
@@ -84,21 +130,34 @@ def zeros(_):
     x, y, z, n = symbol("x64", 64), symbol("y64", 64), symbol("z64", 64), variable("n")
     union, product = operations.either(x, y), operations.multiply_at(64, x, y)
     for term, not_zero, expected in (
-            (x, [x], False), (x, [y], None), (x, [], None), (x, [y, x], False), (union, [x], False), (union, [y],
-                False),
-            (union, [z], None), (union, [], None), (operations.either(union, z), [x], False),
-                (operations.either(z, union), [y], False),
-            (operations.either(x, 6), [x], False), (operations.either(x, 6), [y], None), (operations.both(x, y), [x],
-                None),
-            (product, [x], None), (operations.xor(x, y), [x, y], None), (operations.add_at(64, (1, x), (1, 1)), [x],
-                None)):
+        (x, [x], False),
+        (x, [y], None),
+        (x, [], None),
+        (x, [y, x], False),
+        (union, [x], False),
+        (union, [y], False),
+        (union, [z], None),
+        (union, [], None),
+        (operations.either(union, z), [x], False),
+        (operations.either(z, union), [y], False),
+        (operations.either(x, 6), [x], False),
+        (operations.either(x, 6), [y], None),
+        (operations.both(x, y), [x], None),
+        (product, [x], None),
+        (operations.xor(x, y), [x, y], None),
+        (operations.add_at(64, (1, x), (1, 1)), [x], None),
+    ):
         decided("e", after("logic", term, term, term, not_zero), expected, f"{term} with {not_zero}")
     for b in (1, 5, y):
         decided("e", after("sub", x, b, None, [x]), None, f"a nonzero term and {b}")
     decided("e", after("sub", x, 0, None, [x]), False, "a nonzero term and 0")
-    for most, least, mask, expected in ((255, 0, ~255, True), (256, 0, ~255, None), (300, 256, ~255, False), (300,
-            255, ~255, None),
-                                        (300, 0, 0, True)):
+    for most, least, mask, expected in (
+        (255, 0, ~255, True),
+        (256, 0, ~255, None),
+        (300, 256, ~255, False),
+        (300, 255, ~255, None),
+        (300, 0, 0, True),
+    ):
         with given(at_most(n, most), minus(n, least)):
             united = Either([n, 3], mask % (1 << 64))
             decided("e", after("logic", united, united, united), expected, f"united numbers from {least} to {most}")
@@ -127,24 +186,39 @@ def places(_):
     with given(minus(n, 1), at_most(n, 100), minus(m, FAR + 9), at_most(m, (1 << 63) - 1)):
         far = times(1 << 57, n)
         for a, b, expected in (
-                (address(FIRST, 8), address(FIRST, 8), True), (address(FIRST, 8), address(FIRST, 9), False),
-                (address(FIRST, n), address(FIRST, n), True), (address(FIRST, n), address(FIRST, 0), False),
-                (address(FIRST, n), address(FIRST, 50), None), (address(FIRST, n), address(FIRST, 200), False),
-                (address(FIRST, far), address(FIRST, plus(far, 1)), False), (address(FIRST, far), address(FIRST, far),
-                    True),
-                (address(FIRST, far), address(FIRST, 0), None), (address(large, m), address(large, 5), False),
-                (address(large, 5), address(large, m), False), (address(large, m), address(large, plus(m, 1)), False),
-                (address(large, m), address(large, -1), None), (address(large, -1), address(large, m), None),
-                (apart(FIRST, SECOND, 3), apart(FIRST, SECOND, 3), True), (apart(FIRST, SECOND, 3),
-                    apart(FIRST, SECOND, 4), False),
-                (apart(FIRST, SECOND, n), apart(FIRST, SECOND, 200), False), (apart(FIRST, SECOND, n),
-                    apart(FIRST, SECOND, 50), None),
-                (apart(FIRST, SECOND, m), apart(FIRST, SECOND, 5), None), (address(FIRST), address(SECOND), None),
-                (address(FIRST), apart(FIRST, SECOND), None), (7, address(FIRST), None), (0, address(FIRST), None),
-                (address(FIRST), 0, False), (address(FIRST, 100), 0, False), (address(FIRST, 101), 0, None),
-                    (address(FIRST, -1), 0, None),
-                (address(FIRST, n), 0, False), (address(FIRST, plus(n, 1)), 0, None), (address(FIRST), 7, None),
-                (symbol("x64", 64), address(FIRST), None), (address(FIRST), symbol("x64", 64), None)):
+            (address(FIRST, 8), address(FIRST, 8), True),
+            (address(FIRST, 8), address(FIRST, 9), False),
+            (address(FIRST, n), address(FIRST, n), True),
+            (address(FIRST, n), address(FIRST, 0), False),
+            (address(FIRST, n), address(FIRST, 50), None),
+            (address(FIRST, n), address(FIRST, 200), False),
+            (address(FIRST, far), address(FIRST, plus(far, 1)), False),
+            (address(FIRST, far), address(FIRST, far), True),
+            (address(FIRST, far), address(FIRST, 0), None),
+            (address(large, m), address(large, 5), False),
+            (address(large, 5), address(large, m), False),
+            (address(large, m), address(large, plus(m, 1)), False),
+            (address(large, m), address(large, -1), None),
+            (address(large, -1), address(large, m), None),
+            (apart(FIRST, SECOND, 3), apart(FIRST, SECOND, 3), True),
+            (apart(FIRST, SECOND, 3), apart(FIRST, SECOND, 4), False),
+            (apart(FIRST, SECOND, n), apart(FIRST, SECOND, 200), False),
+            (apart(FIRST, SECOND, n), apart(FIRST, SECOND, 50), None),
+            (apart(FIRST, SECOND, m), apart(FIRST, SECOND, 5), None),
+            (address(FIRST), address(SECOND), None),
+            (address(FIRST), apart(FIRST, SECOND), None),
+            (7, address(FIRST), None),
+            (0, address(FIRST), None),
+            (address(FIRST), 0, False),
+            (address(FIRST, 100), 0, False),
+            (address(FIRST, 101), 0, None),
+            (address(FIRST, -1), 0, None),
+            (address(FIRST, n), 0, False),
+            (address(FIRST, plus(n, 1)), 0, None),
+            (address(FIRST), 7, None),
+            (symbol("x64", 64), address(FIRST), None),
+            (address(FIRST), symbol("x64", 64), None),
+        ):
             decided("e", after("sub", a, b), expected, f"{a} and {b}")
             decided("ne", after("sub", a, b), None if expected is None else not expected, f"{a} and {b}")
 
@@ -154,37 +228,72 @@ def order_of_places(_):
     n = variable("n")
     with given(minus(n, 1), at_most(n, 100)):
         for a, b, expected in (
-                (address(FIRST), address(FIRST, 1), True), (address(FIRST, 1), address(FIRST), False),
-                    (address(FIRST), address(FIRST), False),
-                (address(FIRST), address(FIRST, n), True), (address(FIRST, n), address(FIRST, 100), None),
-                    (address(FIRST, 100), address(FIRST, n), False),
-                (address(FIRST, 101), address(FIRST), None), (address(FIRST), address(FIRST, 101), None),
-                    (address(FIRST, -1), address(FIRST), None),
-                (address(FIRST), address(FIRST, -1), None), (address(FIRST), address(SECOND, 1), None),
-                    (address(FIRST), apart(FIRST, SECOND), None),
-                (8, address(FIRST), None), (address(FIRST), 8, None), (address(FIRST), 0, None), (address(FIRST),
-                    symbol("x64", 64), None),
-                (symbol("x64", 64), address(FIRST), None), (apart(FIRST, SECOND), address(FIRST), None),
-                (apart(FIRST, SECOND), apart(FIRST, SECOND), None)):
+            (address(FIRST), address(FIRST, 1), True),
+            (address(FIRST, 1), address(FIRST), False),
+            (address(FIRST), address(FIRST), False),
+            (address(FIRST), address(FIRST, n), True),
+            (address(FIRST, n), address(FIRST, 100), None),
+            (address(FIRST, 100), address(FIRST, n), False),
+            (address(FIRST, 101), address(FIRST), None),
+            (address(FIRST), address(FIRST, 101), None),
+            (address(FIRST, -1), address(FIRST), None),
+            (address(FIRST), address(FIRST, -1), None),
+            (address(FIRST), address(SECOND, 1), None),
+            (address(FIRST), apart(FIRST, SECOND), None),
+            (8, address(FIRST), None),
+            (address(FIRST), 8, None),
+            (address(FIRST), 0, None),
+            (address(FIRST), symbol("x64", 64), None),
+            (symbol("x64", 64), address(FIRST), None),
+            (apart(FIRST, SECOND), address(FIRST), None),
+            (apart(FIRST, SECOND), apart(FIRST, SECOND), None),
+        ):
             decided("b", after("sub", a, b), expected, f"{a} and {b}")
 
 
 def distances(_):
     """Tests when a distance of two objects is n or more: of objects at P with p bytes and at Q with q it is P - Q,
     which is at least q, or 2 ^ 64 less Q - P, which is at most p below 2 ^ 64."""
+    a: Any
+    b: Any
+    count: Any
+    equal: Any
+    offset: Any
     cpu, read_only, n = after("sub", 0, 0), Input("third", 60), variable("n")
     other = WordMemory("other", 60, alignment=8)
-    for a, b, q, p in ((FIRST, SECOND, 100, 100), (SECOND, FIRST, 100, 100), (FIRST, other, 60, 100), (other, FIRST,
-            100, 60),
-                       (STACKED, SECOND, 100, ENTRY), (SECOND, STACKED, ENTRY, 100)):
-        for offset, count, expected in ((0, q, True), (0, q + 1, False), (0, 0, True), (5, q + 5, True), (5, q + 6,
-                False), (-5, q - 5, True),
-                                        (-5, q - 4, False), (p - 1, 8, True), (p, 8, False), (FAR, 8, False), (-q, 0,
-                                            True), (-q, 1, False)):
-            expect(flags.is_far(cpu, apart(a, b, offset), count), expected,
-                f"{a.name} - {b.name} + {offset} is {count} at least")
-            decided("b", after("sub", apart(a, b, offset), count), False if expected else None,
-                f"{a.name} - {b.name} + {offset} and {count}")
+    for a, b, q, p in (
+        (FIRST, SECOND, 100, 100),
+        (SECOND, FIRST, 100, 100),
+        (FIRST, other, 60, 100),
+        (other, FIRST, 100, 60),
+        (STACKED, SECOND, 100, ENTRY),
+        (SECOND, STACKED, ENTRY, 100),
+    ):
+        for offset, count, expected in (
+            (0, q, True),
+            (0, q + 1, False),
+            (0, 0, True),
+            (5, q + 5, True),
+            (5, q + 6, False),
+            (-5, q - 5, True),
+            (-5, q - 4, False),
+            (p - 1, 8, True),
+            (p, 8, False),
+            (FAR, 8, False),
+            (-q, 0, True),
+            (-q, 1, False),
+        ):
+            expect(
+                flags.is_far(cpu, apart(a, b, offset), count),
+                expected,
+                f"{a.name} - {b.name} + {offset} is {count} at least",
+            )
+            decided(
+                "b",
+                after("sub", apart(a, b, offset), count),
+                False if expected else None,
+                f"{a.name} - {b.name} + {offset} and {count}",
+            )
             equal = False if flags.is_far(cpu, apart(a, b, offset), count + 1) else None
             decided("e", after("sub", apart(a, b, offset), count), equal, f"{a.name} - {b.name} + {offset} and {count}")
     for a, b in ((SECOND, read_only), (read_only, SECOND)):
@@ -192,8 +301,14 @@ def distances(_):
     for bases in (((FIRST, 1),), ((FIRST, 2), (SECOND, -1)), ((FIRST, 1), (SECOND, 1)), ((FIRST, -1),), ()):
         expect(flags.is_far(cpu, Address(bases, 0), 0), False, f"no distance: {bases}")
     large, huge = (WordMemory(name, 1 << 63, alignment=8) for name in ("large", "huge"))
-    for offset, count, expected in ((0, FAR, True), (0, FAR + 1, False), (FAR, 0, True), (FAR + 1, 0, False), (-FAR,
-            0, True), (-FAR - 1, 0, False)):
+    for offset, count, expected in (
+        (0, FAR, True),
+        (0, FAR + 1, False),
+        (FAR, 0, True),
+        (FAR + 1, 0, False),
+        (-FAR, 0, True),
+        (-FAR - 1, 0, False),
+    ):
         expect(flags.is_far(cpu, apart(large, huge, offset), count), expected, f"a distance of {count} with {offset}")
     with given(at_most(n, 50)):
         for count, expected in ((50, True), (51, True), (100, True), (101, False)):
@@ -203,38 +318,56 @@ def distances(_):
 
 def sums_of_places(_):
     """Tests sums and differences of addresses and numbers: their bases, sorted by name, and their offset near 0."""
+    bases: Any
+    found: Any
     n, other = variable("n"), Input("other", 9)
     with given(minus(n, 3), at_most(n, 100)):
         for word, a, b, bases, offset in (
-                ("add", address(FIRST, 5), 7, {FIRST: 1}, 12), ("add", 7, address(FIRST, 5), {FIRST: 1}, 12), ("sub",
-                    address(FIRST, 5), 7, {FIRST: 1}, -2),
-                ("sub", 7, address(FIRST, 5), {FIRST: -1}, 2), ("add", address(FIRST, 5), address(SECOND, 6),
-                    {FIRST: 1, SECOND: 1}, 11),
-                ("sub", address(FIRST, 5), address(SECOND, 6), {FIRST: 1, SECOND: -1}, -1), ("add", address(FIRST, 5),
-                    address(FIRST, 6), {FIRST: 2}, 11),
-                ("add", address(FIRST, 5), n, {FIRST: 1}, plus(n, 5)), ("sub", address(FIRST, 5), n, {FIRST: 1},
-                    minus(5, n)),
-                ("add", n, address(FIRST, 5), {FIRST: 1}, plus(n, 5)), ("add", address(FIRST, (1 << 63) - 1), 1,
-                    {FIRST: 1}, -1 << 63),
-                ("sub", address(FIRST, -1 << 63), 1, {FIRST: 1}, (1 << 63) - 1), ("add", address(other),
-                    apart(FIRST, SECOND), {FIRST: 1, SECOND: -1, other: 1}, 0)):
+            ("add", address(FIRST, 5), 7, {FIRST: 1}, 12),
+            ("add", 7, address(FIRST, 5), {FIRST: 1}, 12),
+            ("sub", address(FIRST, 5), 7, {FIRST: 1}, -2),
+            ("sub", 7, address(FIRST, 5), {FIRST: -1}, 2),
+            ("add", address(FIRST, 5), address(SECOND, 6), {FIRST: 1, SECOND: 1}, 11),
+            ("sub", address(FIRST, 5), address(SECOND, 6), {FIRST: 1, SECOND: -1}, -1),
+            ("add", address(FIRST, 5), address(FIRST, 6), {FIRST: 2}, 11),
+            ("add", address(FIRST, 5), n, {FIRST: 1}, plus(n, 5)),
+            ("sub", address(FIRST, 5), n, {FIRST: 1}, minus(5, n)),
+            ("add", n, address(FIRST, 5), {FIRST: 1}, plus(n, 5)),
+            ("add", address(FIRST, (1 << 63) - 1), 1, {FIRST: 1}, -1 << 63),
+            ("sub", address(FIRST, -1 << 63), 1, {FIRST: 1}, (1 << 63) - 1),
+            ("add", address(other), apart(FIRST, SECOND), {FIRST: 1, SECOND: -1, other: 1}, 0),
+        ):
             found = arithmetic(word, 64, a, b)
-            expect(dict(found.bases) == bases and is_same_number(found.offset, offset), True,
-                f"{a} {word} {b}: {found}")
-            expect([base.name for base, _ in found.bases] == sorted(base.name for base in bases), True,
-                "the order of bases")
-        for a, b, expected in ((address(FIRST, 40), address(FIRST, 9), 31), (address(FIRST, 9), address(FIRST, 40),
-                -31 % (1 << 64)),
-                               (address(FIRST, plus(n, 9)), address(FIRST, 9), n), (apart(FIRST, SECOND, 9),
-                                   apart(FIRST, SECOND, 3), 6)):
+            expect(
+                dict(found.bases) == bases and is_same_number(found.offset, offset), True, f"{a} {word} {b}: {found}"
+            )
+            expect(
+                [base.name for base, _ in found.bases] == sorted(base.name for base in bases),
+                True,
+                "the order of bases",
+            )
+        for a, b, expected in (
+            (address(FIRST, 40), address(FIRST, 9), 31),
+            (address(FIRST, 9), address(FIRST, 40), -31 % (1 << 64)),
+            (address(FIRST, plus(n, 9)), address(FIRST, 9), n),
+            (apart(FIRST, SECOND, 9), apart(FIRST, SECOND, 3), 6),
+        ):
             expect(is_same_number(arithmetic("sub", 64, a, b), expected), True, f"{a} - {b}")
-    for word, a, b in (("add", address(FIRST), symbol("x64", 64)), ("sub", address(FIRST), symbol("x64", 64)), ("add",
-            symbol("x64", 64), address(FIRST)),
-                       ("xor", address(FIRST), 1), ("mul", address(FIRST), 1), ("and", address(FIRST),
-                           symbol("x64", 64)), ("or", address(FIRST), n),
-                       ("and", address(FIRST), address(FIRST)), ("shl", address(FIRST), 1), ("lshr", address(FIRST),
-                           1), ("or", address(FIRST), address(FIRST)),
-                       ("and", apart(FIRST, SECOND), 7), ("or", apart(FIRST, SECOND), 7)):
+    for word, a, b in (
+        ("add", address(FIRST), symbol("x64", 64)),
+        ("sub", address(FIRST), symbol("x64", 64)),
+        ("add", symbol("x64", 64), address(FIRST)),
+        ("xor", address(FIRST), 1),
+        ("mul", address(FIRST), 1),
+        ("and", address(FIRST), symbol("x64", 64)),
+        ("or", address(FIRST), n),
+        ("and", address(FIRST), address(FIRST)),
+        ("shl", address(FIRST), 1),
+        ("lshr", address(FIRST), 1),
+        ("or", address(FIRST), address(FIRST)),
+        ("and", apart(FIRST, SECOND), 7),
+        ("or", apart(FIRST, SECOND), 7),
+    ):
         refuses(lambda: arithmetic(word, 64, a, b), f"{a} {word} {b}")
     for width in (8, 16, 32):
         for word in ("add", "sub"):
@@ -248,8 +381,9 @@ def refused_sums(_):
         refuses(lambda: values.place_of(x), "a number as an address")
     for bases in (((FIRST, 2),), ((FIRST, -1),), ((FIRST, 1), (SECOND, 1)), ()):
         refuses(lambda: Address(bases, 0).place(), "a sum as an address")
-    expect(values.place_of(address(FIRST, 5)) == (FIRST, 5) and values.place_of(address(FIRST))[1] == 0, True,
-        "an address")
+    expect(
+        values.place_of(address(FIRST, 5)) == (FIRST, 5) and values.place_of(address(FIRST))[1] == 0, True, "an address"
+    )
 
 
 def bits_of_places(_):
@@ -261,29 +395,46 @@ def bits_of_places(_):
         for k in range(8):
             mask = (1 << k) - 1
             for at in (0, 1, 7, 8, 63, 64, 999, -1):
-                for ask in (lambda: arithmetic("and", 64, address(memory, at), mask), lambda: arithmetic("and", 64,
-                        mask, address(memory, at)),
-                            lambda: values.low(address(memory, at), k), lambda: arithmetic("and", 32,
-                                address(memory, at), mask)):
+                for ask in (
+                    lambda: arithmetic("and", 64, address(memory, at), mask),
+                    lambda: arithmetic("and", 64, mask, address(memory, at)),
+                    lambda: values.low(address(memory, at), k),
+                    lambda: arithmetic("and", 32, address(memory, at), mask),
+                ):
                     if alignment % (mask + 1):
                         refuses(ask, f"{k} bits of an address")
                     elif k:
                         expect(ask(), (at + residue) & mask, f"{k} bits of {at} in {memory.name}")
             with given(at_most(n, 9)):
                 if not alignment % (mask + 1):
-                    expect(is_same_number(arithmetic("and", 64, address(memory, plus(times(64, n), 5)), mask),
-                        (residue + 5) & mask), True, "bits of a number")
+                    expect(
+                        is_same_number(
+                            arithmetic("and", 64, address(memory, plus(times(64, n), 5)), mask), (residue + 5) & mask
+                        ),
+                        True,
+                        "bits of a number",
+                    )
         for mask in (2, 5, 6, 0b1001):
             refuses(lambda: arithmetic("and", 64, address(memory), mask), f"the bits {mask} of an address")
         odd = WordMemory("odd", 1000, alignment=6)
         refuses(lambda: arithmetic("and", 64, address(odd, 4), 5), "the bits 5 of an address")
-        for at, number, is_free in ((64, 7, True), (64, 8, True), (72, 7, True), (65, 1, False), (65, 2, False), (64,
-                63, True), (64, 64, False)):
+        for at, number, is_free in (
+            (64, 7, True),
+            (64, 8, True),
+            (72, 7, True),
+            (65, 1, False),
+            (65, 2, False),
+            (64, 63, True),
+            (64, 64, False),
+        ):
             size = number.bit_length()
             is_known = not alignment % (1 << size) and (at + residue) % (1 << size) == 0
             if is_known:
-                expect(arithmetic("or", 64, address(memory, at), number).place()[1], at + number,
-                    "an address with low bits")
+                expect(
+                    arithmetic("or", 64, address(memory, at), number).place()[1],
+                    at + number,
+                    "an address with low bits",
+                )
             else:
                 refuses(lambda: arithmetic("or", 64, address(memory, at), number), f"an address {at} or {number}")
     expect(is_free, False, "the last case")
@@ -296,9 +447,17 @@ def shifted_numbers(_):
         found = arithmetic("lshr", 64, plus(n, 3), 2)
         number, k = values.quotients[found.number]
         expect(is_same_number(number, plus(n, 3)) and k == 2, True, "the quotient of a shift")
-        for word, a, b in (("and", plus(n, 3), 12), ("shl", x, 3), ("lshr", x, 3), ("mul", x, 3),
-                           ("xor", plus(n, 3), 3), ("add", n, (1 << 64) - 50), ("sub", n, 50),
-                           ("mul", n, 1 << 60), ("shl", n, 60)):
+        for word, a, b in (
+            ("and", plus(n, 3), 12),
+            ("shl", x, 3),
+            ("lshr", x, 3),
+            ("mul", x, 3),
+            ("xor", plus(n, 3), 3),
+            ("add", n, (1 << 64) - 50),
+            ("sub", n, 50),
+            ("mul", n, 1 << 60),
+            ("shl", n, 60),
+        ):
             answer = arithmetic(word, 64, a, b)
             expect(getattr(answer, "number", -1) not in values.quotients, True, f"{word} as a quotient")
         expect(is_same_number(arithmetic("lshr", 64, times(n, 8), 3), n), True, "a shift that leaves a number")
@@ -306,16 +465,21 @@ def shifted_numbers(_):
         expect(is_same_number(arithmetic("xor", 64, (1 << 64) - 1, n), minus((1 << 64) - 1, n)), True, "a complement")
         expect(is_same_number(arithmetic("and", 64, 63, plus(times(64, n), 5)), 5), True, "a mask of a number")
         term = symbol("n", 64).values
-        for word, a, b, of in (("xor", n, (1 << 32) - 1, lambda v: v ^ (1 << 32) - 1), ("and", n, x, None), ("or", n,
-                x, None), ("or", x, n, None)):
+        for word, a, b, of in (
+            ("xor", n, (1 << 32) - 1, lambda v: v ^ (1 << 32) - 1),
+            ("and", n, x, None),
+            ("or", n, x, None),
+            ("or", x, n, None),
+        ):
             found = arithmetic(word, 64, a, b)
             for k in range(nodes.POINTS):
                 v, w = term[k], x.values[k]
                 expect(found.values[k], of(v) if of else v & w if word == "and" else v | w, f"{word} of {a} and {b}")
         for a, b in ((n, 5), (5, n), (n, n)):
             expect(isinstance(arithmetic("or", 64, a, b), Either), True, "united numbers")
-            refuses(lambda: arithmetic("or", 32, a, b).is_zero(), "united numbers of 32 bits", (Undecided,
-                AttributeError))
+            refuses(
+                lambda: arithmetic("or", 32, a, b).is_zero(), "united numbers of 32 bits", (Undecided, AttributeError)
+            )
 
 
 def halves(_):
@@ -337,9 +501,13 @@ def halves(_):
         expect(is_same_number(values.low(plus(times(1 << 32, n), 7), 32), 7), True, "the low bits of a number")
         expect(is_same_number(values.low(n, 32), n), True, "the low bits of a small number")
         found = values.low(plus(times(1 << 20, n), n), 16)
-        expect(value_of(found), symbol("n", 64).values[0] % (1 << 16) if not hasattr(found, "parts")
-            or isinstance(found, nodes.Node) else -1, "a term's low bits") \
-            if isinstance(found, nodes.Node) else None
+        expect(
+            value_of(found),
+            symbol("n", 64).values[0] % (1 << 16)
+            if not hasattr(found, "parts") or isinstance(found, nodes.Node)
+            else -1,
+            "a term's low bits",
+        ) if isinstance(found, nodes.Node) else None
     with given(at_most(n, 1 << 40)):
         for width in (8, 16, 32):
             expect(values.low(n, width).values[0], symbol("n", 64).values[0] % (1 << width), "a term's low bits")
@@ -352,16 +520,24 @@ def halves(_):
 def joined_values(_):
     """Tests values side by side, and which can't be."""
     x, n, place = symbol("x64", 64), variable("n"), address(FIRST, 8)
-    for parts, expected in ((((5, 8), (0, 0)), 5), (((0, 0), (5, 8)), 5), (((0x1FF, 8),), 0xFF),
-            (((1, 4), (2, 4), (3, 8)), 0x321), (((0x15, 4), (2, 4)), 0x25)):
+    for parts, expected in (
+        (((5, 8), (0, 0)), 5),
+        (((0, 0), (5, 8)), 5),
+        (((0x1FF, 8),), 0xFF),
+        (((1, 4), (2, 4), (3, 8)), 0x321),
+        (((0x15, 4), (2, 4)), 0x25),
+    ):
         expect(values.joined(*parts), expected, f"the values {parts}")
     expect(values.joined((x, 64)) is x and values.joined((x, 64), (place, 0)) is x, True, "one value")
     expect(values.joined((place, 64)).place() == (FIRST, 8), True, "one address")
     expect(values.joined((place, 3)), 0, "the low bits of an address")
     with given(at_most(n, 100)):
         found = values.joined((n, 32), (x, 32))
-        expect(found.values[0], symbol("n", 64).values[0] % (1 << 32) | x.values[0] % (1 << 32) << 32,
-            "a number and a term")
+        expect(
+            found.values[0],
+            symbol("n", 64).values[0] % (1 << 32) | x.values[0] % (1 << 32) << 32,
+            "a number and a term",
+        )
         expect(is_same_number(values.joined((n, 64)), n), True, "one number")
         for parts in (((place, 32), (x, 32)), ((x, 32), (place, 32)), ((Either([n], 1), 32), (0, 32))):
             refuses(lambda: values.joined(*parts), "an address beside other bits")
@@ -382,8 +558,15 @@ def values_of_numbers(_):
     """Tests a polynomial modulo powers of two as a term, with all of its low bits that are numbers."""
     n, m = variable("n"), variable("m")
     with given(at_most(n, 100), at_most(m, 100)):
-        for x in (n, plus(n, 1), plus(times(8, n), 5), plus(times(64, n), times(16, m), 3), plus(times(-8, n), 5),
-                times(n, m), plus(times(4, times(n, m)), 1)):
+        for x in (
+            n,
+            plus(n, 1),
+            plus(times(8, n), 5),
+            plus(times(64, n), times(16, m), 3),
+            plus(times(-8, n), 5),
+            times(n, m),
+            plus(times(4, times(n, m)), 1),
+        ):
             below, rest, z = values.split(x)
             for point in ({"n": 3, "m": 5}, {"n": 0, "m": 0}, {"n": 77, "m": 2}):
                 expect(below + (value_at(rest, point) << z), value_at(x, point), f"{x} split")
@@ -392,8 +575,10 @@ def values_of_numbers(_):
                 found = values.term_of(x, width)
                 for k in range(nodes.POINTS):
                     of = {name: symbol(name, 64).values[k] for name in ("n", "m")}
-                    value = sum(c * (symbol("*".join(names), 64).values[k] if len(names) > 1 else of[names[0]]
-                        if names else 1) for names, c in polynomials.parts_of(x).items())
+                    value = sum(
+                        c * (symbol("*".join(names), 64).values[k] if len(names) > 1 else of[names[0]] if names else 1)
+                        for names, c in polynomials.parts_of(x).items()
+                    )
                     expect(value_of(found, k), value % (1 << width), f"{x} modulo 2 ^ {width}")
     expect(values.split(plus(times(8, n), 12))[2], 3, "bits that are numbers")
     expect(values.split(plus(times(8, n), times(4, m)))[2], 2, "bits that are numbers")
@@ -410,10 +595,25 @@ def fresh_names(_):
     right = symbol("n", 64).values
     for wrong in ((right[0], right[1] ^ 1), (right[0] ^ 1, right[1])):
         term = types.SimpleNamespace(values=wrong)
-        with unittest.mock.patch.object(values, "as_word", lambda *_: term), \
-                unittest.mock.patch.object(values, "joined", lambda *_: term):
+        with unittest.mock.patch.object(values, "as_word", lambda *_: term), unittest.mock.patch.object(
+            values, "joined", lambda *_: term
+        ):
             refuses(lambda: values.term_of(variable("n"), 64), "a wrong term of a number", WrongRule)
 
 
-ALL = [orders_of_terms, results_of_two, zeros, places, order_of_places, distances, sums_of_places, refused_sums,
-       bits_of_places, shifted_numbers, halves, joined_values, values_of_numbers, fresh_names]
+ALL = [
+    orders_of_terms,
+    results_of_two,
+    zeros,
+    places,
+    order_of_places,
+    distances,
+    sums_of_places,
+    refused_sums,
+    bits_of_places,
+    shifted_numbers,
+    halves,
+    joined_values,
+    values_of_numbers,
+    fresh_names,
+]

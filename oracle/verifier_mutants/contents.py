@@ -3,10 +3,20 @@ that two sources share. Each takes a random generator, which it doesn't use, and
 import struct
 import types
 import unittest.mock
+from typing import Any
 
 from assembly import same_bytes
 from oracle.machine_code import cargo, cargo_exports, exports, object_contents, unwinding
-from oracle.machine_code.object_contents import CODE, CONSTANTS, INFO, MERGEABLE, NOBITS, PROGBITS, SHADOW_STACK, WRITTEN
+from oracle.machine_code.object_contents import (
+    CODE,
+    CONSTANTS,
+    INFO,
+    MERGEABLE,
+    NOBITS,
+    PROGBITS,
+    SHADOW_STACK,
+    WRITTEN,
+)
 from oracle.machine_code.objects import Register
 from assembly.same_bytes import NONE, NOTE, RELA, STRTAB, SYMTAB
 from oracle.symbolic_terms import NotShown, Unsupported
@@ -53,7 +63,9 @@ def note(*properties, note_type=5, name=b"GNU\0"):
     return struct.pack("<III", len(name), len(content), note_type) + name + content
 
 
-def new_object(sections=SECTIONS, symbols=SYMBOLS, notes=note((0xC0000002, 4, 2)), system=(1, 0, 0), flags=0, machine=62):
+def new_object(
+    sections=SECTIONS, symbols=SYMBOLS, notes=note((0xC0000002, 4, 2)), system=(1, 0, 0), flags=0, machine=62
+):
     heads, names = (
         [types.SimpleNamespace(**dict(zip(fields, one))) for one in some]
         for some, fields in ((sections, FIELDS), (symbols, PARTS))
@@ -74,6 +86,8 @@ def with_field(some, fields, k, **changed):
 
 def sections(_):
     """Changes each field of each section."""
+    change: Any
+    k: Any
     listed(new_object())
     for k, (name, section_type, flags, size, align, entry, link, _) in enumerate(SECTIONS):
         changes = [
@@ -98,13 +112,19 @@ def sections(_):
         ] * (section_type == RELA)
         for change in changes:
             refuses(
-                lambda: listed(new_object(with_field(SECTIONS, FIELDS, k, **change))), f"{name} with {change}", Unsupported
+                lambda: listed(new_object(with_field(SECTIONS, FIELDS, k, **change))),
+                f"{name} with {change}",
+                Unsupported,
             )
     refuses(lambda: listed(new_object([*SECTIONS, SECTIONS[5]])), "two sections of one name", Unsupported)
-    refuses(lambda: listed(new_object([*SECTIONS, (".text.h", *SECTIONS[2][1:])])), "code without a function", Unsupported)
+    refuses(
+        lambda: listed(new_object([*SECTIONS, (".text.h", *SECTIONS[2][1:])])), "code without a function", Unsupported
+    )
     stack = [one[0] for one in SECTIONS].index(".note.GNU-stack")
     refuses(
-        lambda: listed(new_object(with_field(SECTIONS, FIELDS, stack, name=".bss.x"))), "a stack that may be run", Unsupported
+        lambda: listed(new_object(with_field(SECTIONS, FIELDS, stack, name=".bss.x"))),
+        "a stack that may be run",
+        Unsupported,
     )
     for system in ((2, 0, 0), (1, 3, 0), (1, 0, 1)):
         refuses(lambda: listed(new_object(system=system)), f"an object for the system {system}", Unsupported)
@@ -113,6 +133,8 @@ def sections(_):
 
 def symbols(_):
     """Changes each field of each symbol."""
+    change: Any
+    k: Any
     for k, changes in (
         (
             F,
@@ -150,7 +172,9 @@ def symbols(_):
     for name in ("memmove", "memset"):
         listed(new_object(symbols=with_field(SYMBOLS, PARTS, MEMCPY, name=name)))
     refuses(lambda: listed(new_object(symbols=[*SYMBOLS, SYMBOLS[F]])), "two functions of one section", Unsupported)
-    refuses(lambda: listed(new_object(symbols=[*SYMBOLS[:G], *SYMBOLS[G + 1 :]])), "code without a function", Unsupported)
+    refuses(
+        lambda: listed(new_object(symbols=[*SYMBOLS[:G], *SYMBOLS[G + 1 :]])), "code without a function", Unsupported
+    )
 
 
 def properties(_):
@@ -179,6 +203,8 @@ def properties(_):
 
 def loaded_sections(_):
     """Tests which sections of an object are compared byte for byte."""
+    found: Any
+    whole: Any
     whole = types.SimpleNamespace(heads=new_object().heads)
     found = [head.name for head in same_bytes.Object.loaded(whole)]
     expect(found == [".text.f", ".rodata.cst16", ".rodata", ".text.g"], True, "loaded sections")
@@ -186,6 +212,10 @@ def loaded_sections(_):
 
 def relocations(_):
     """Tests the targets of relocations, in which assemblers differ: calls of local names, and mergeable sections."""
+    found: Any
+    r_type: Any
+    symbol: Any
+    whole: Any
     whole = types.SimpleNamespace(heads=new_object().heads, symbols=new_object().symbols)
     local, label, section = G, LABEL, 4
     whole.symbols.append(types.SimpleNamespace(name="c", info=0x01, other=0, section=4, value=16, size=16))
@@ -377,7 +407,7 @@ def source(bodies, targets, constants, end=""):
 
 
 BODIES, DATA = {name: name.encode() for name in "fghjk"}, bytes(range(200))
-TARGETS = {
+TARGETS: dict[str, list] = {
     "f": [("call", "g", 0)],
     "g": [("jmp", "h", 0), ("jmp", "g", 4)],
     "j": [("add", "c", 8)],
@@ -406,6 +436,11 @@ DIFFERENCES = [
 
 def shared_functions(_):
     """Tests that functions are shared if their bytes, targets and constants are, and those of all that they reach."""
+    changed: Any
+    expected: Any
+    first: Any
+    found: Any
+    right: Any
     right = {"bodies": BODIES, "targets": TARGETS, "constants": {"c": (DATA, 32)}, "end": ".i7"}
     first = source(**right)
     for changed, expected in DIFFERENCES:

@@ -1,8 +1,8 @@
 """Derives mutants of a module of the verifier from its syntax tree.
 
-A mutant changes one node: a comparison is decided or moved by one, a condition loses a part, an operation returns one of
-its operands, a number is one more, a call returns its argument or gets two of them swapped, a statement is dropped, a
-loop leaves out its last turn. Each comparison and each condition has all its mutants, each other line one. Names,
+A mutant changes one node: a comparison is decided or moved by one, a condition loses a part, an operation returns one
+of its operands, a number is one more, a call returns its argument or gets two of them swapped, a statement is dropped,
+a loop leaves out its last turn. Each comparison and each condition has all its mutants, each other line one. Names,
 messages and imports have none."""
 import ast
 import collections
@@ -13,10 +13,24 @@ import hashlib
 Mutant = collections.namedtuple("Mutant", "path line function before after node number decides check")
 NEXT = {ast.Lt: ast.LtE, ast.LtE: ast.Lt, ast.Gt: ast.GtE, ast.GtE: ast.Gt}
 NAMES = ast.JoinedStr, ast.Import, ast.ImportFrom, ast.arguments
-UNNAMED = "__repr__",
+UNNAMED = ("__repr__",)
+TYPES = "annotation", "returns"  # fields of types, which change no value
 # Functions whose result doesn't depend on the order of two arguments: they aren't swapped.
-COMMUTE = {"plus", "times", "add", "multiply", "xor", "either", "both", "is_same", "is_same_number", "same", "agree",
-           "max", "min"}
+COMMUTE = {
+    "plus",
+    "times",
+    "add",
+    "multiply",
+    "xor",
+    "either",
+    "both",
+    "is_same",
+    "is_same_number",
+    "same",
+    "agree",
+    "max",
+    "min",
+}
 
 
 def parsed(path):
@@ -26,26 +40,35 @@ def parsed(path):
 
 def with_places(tree):
     """Yields (node, parent, field, index, function) of each node that can have mutants, in order."""
+
     def inside(parent, function):
         for field, value in ast.iter_fields(parent):
             for index, node in enumerate(value if isinstance(value, list) else [value]):
-                if not isinstance(node, ast.AST) or isinstance(node, NAMES):
+                if not isinstance(node, ast.AST) or isinstance(node, NAMES) or field in TYPES:
                     continue
-                name = ".".join(filter(None, (function, node.name))) if isinstance(node, (ast.FunctionDef,
-                                                                ast.ClassDef)) else function
+                name = (
+                    ".".join(filter(None, (function, node.name)))
+                    if isinstance(node, (ast.FunctionDef, ast.ClassDef))
+                    else function
+                )
                 if name.endswith(UNNAMED):
                     continue
                 yield node, parent, field, index, name
                 if not isinstance(node, ast.Raise):
                     yield from inside(node, name)
+
     return inside(tree, "")
 
 
 def decides(node, parent, field):
     """True if a node's value decides between two ways."""
     is_test = field == "test" and isinstance(parent, (ast.If, ast.IfExp, ast.While)) or field == "ifs"
-    return isinstance(node, (ast.Compare, ast.BoolOp)) or isinstance(node, ast.UnaryOp) and isinstance(node.op,
-                                                                ast.Not) or is_test
+    return (
+        isinstance(node, (ast.Compare, ast.BoolOp))
+        or isinstance(node, ast.UnaryOp)
+        and isinstance(node.op, ast.Not)
+        or is_test
+    )
 
 
 def changes(node, parent, field):
@@ -55,8 +78,9 @@ def changes(node, parent, field):
     elif decides(node, parent, field):
         yield from changed_decision(node)
     elif isinstance(node, ast.BinOp):
-        yield from (node.left, node.right) if not isinstance(node.left, ast.Constant) or not isinstance(node.left.value,
-                                                                str) else ()
+        yield from (node.left, node.right) if not isinstance(node.left, ast.Constant) or not isinstance(
+            node.left.value, str
+        ) else ()
     elif isinstance(node, ast.UnaryOp):
         yield node.operand
     elif isinstance(node, ast.Constant):
@@ -71,16 +95,19 @@ def changes(node, parent, field):
 
 
 def changed_statement(node):
-    is_assigned = isinstance(node, ast.AugAssign) or isinstance(node, ast.Assign) and not all(
-        isinstance(x, (ast.Name, ast.Tuple)) for x in node.targets)
+    targets = node.targets if isinstance(node, ast.Assign) else [node.target] if isinstance(node, ast.AnnAssign) else []
+    is_assigned = isinstance(node, ast.AugAssign) or not all(isinstance(x, (ast.Name, ast.Tuple)) for x in targets)
     is_called = isinstance(node, ast.Expr) and isinstance(node.value, (ast.Call, ast.Yield, ast.YieldFrom))
     if is_assigned or is_called or isinstance(node, (ast.Raise, ast.Delete)):
         yield ast.Pass()
     elif isinstance(node, (ast.Break, ast.Continue)):
         yield ast.Continue() if isinstance(node, ast.Break) else ast.Break()
     elif isinstance(node, ast.For):
-        few = ast.Subscript(ast.Call(ast.Name("list", ast.Load()), [node.iter], []),
-                            ast.Slice(None, ast.UnaryOp(ast.USub(), ast.Constant(1))), ast.Load())
+        few = ast.Subscript(
+            ast.Call(ast.Name("list", ast.Load()), [node.iter], []),
+            ast.Slice(None, ast.UnaryOp(ast.USub(), ast.Constant(1))),
+            ast.Load(),
+        )
         yield ast.For(node.target, few, node.body, node.orelse)
 
 
@@ -92,11 +119,11 @@ def changed_decision(node):
         parts = [node.left, *node.comparators]
         for k, op in enumerate(node.ops):
             if type(op) in NEXT:
-                yield ast.Compare(node.left, [*node.ops[:k], NEXT[type(op)](), *node.ops[k + 1:]], node.comparators)
+                yield ast.Compare(node.left, [*node.ops[:k], NEXT[type(op)](), *node.ops[k + 1 :]], node.comparators)
             yield ast.Compare(parts[k], [op], [parts[k + 1]])
     elif isinstance(node, ast.BoolOp) and len(node.values) > 2:
         for k in range(len(node.values)):
-            yield ast.BoolOp(node.op, [*node.values[:k], *node.values[k + 1:]])
+            yield ast.BoolOp(node.op, [*node.values[:k], *node.values[k + 1 :]])
     elif isinstance(node, ast.BoolOp):
         yield from node.values
 
@@ -106,7 +133,8 @@ def changed_call(node, parent):
     if is_plain and node.args and not isinstance(parent, ast.Expr):
         yield node.args[0]
     name = getattr(node.func, "attr", getattr(node.func, "id", ""))
-    if is_plain and len(node.args) > 1 and not (name in COMMUTE and len(node.args) == 2):
+    is_ordered = name not in COMMUTE or len(node.args) > 2 and name != "plus"
+    if is_plain and len(node.args) > 1 and is_ordered:
         yield ast.Call(node.func, [node.args[1], node.args[0], *node.args[2:]], node.keywords)
 
 
@@ -122,11 +150,20 @@ def mutants_of(path, short, seed):
         if not hasattr(node, "lineno") or is_text(node):
             continue
         for k, changed in enumerate(changes(node, parent, field)):
-            is_check = isinstance(parent, ast.If) and field == "test" and isinstance(parent.body[0],
-                                                                ast.Raise) and k == 1
-            one = Mutant(short, node.lineno, function, written(node), written(changed), number, k, decides(node, parent,
-                                                                field),
-                         " ".join(ast.unparse(parent).split()) if is_check else "")
+            is_check = (
+                isinstance(parent, ast.If) and field == "test" and isinstance(parent.body[0], ast.Raise) and k == 1
+            )
+            one = Mutant(
+                short,
+                node.lineno,
+                function,
+                written(node),
+                written(changed),
+                number,
+                k,
+                decides(node, parent, field),
+                " ".join(ast.unparse(parent).split()) if is_check else "",
+            )
             if one.before != one.after:
                 (out if one.decides else lines[node.lineno]).append(one)
     out += [min(some, key=lambda one: hash_of(seed, one)) for some in lines.values()]

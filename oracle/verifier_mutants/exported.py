@@ -6,14 +6,25 @@ import unittest.mock
 
 from oracle.machine_code import calls, layouts
 from oracle.machine_code.values import Names, arithmetic, bits, joined, low
-from oracle.symbolic_terms import (LONGEST_SECRET, REFUSALS, Input, Request, definition, is_natural, is_same_number, minus,
+from oracle.symbolic_terms import (
+    LONGEST_SECRET,
+    REFUSALS,
+    Input,
+    Request,
+    definition,
+    is_natural,
+    is_same_number,
+    minus,
     names_of,
-                                   polynomials, symbol, value_at)
+    polynomials,
+    symbol,
+    value_at,
+)
 
 from .values import expect, refuses
 
 patched = unittest.mock.patch.object
-LIMIT, BELOW = 1 << 64, (1 << 32) - 1         # the words, and -1 as 32 bits
+LIMIT, BELOW = 1 << 64, (1 << 32) - 1  # the words, and -1 as 32 bits
 
 
 class Model(Names):
@@ -39,6 +50,7 @@ def required(ask, answer, faults, expected, what, **more):
 
 def canonical_forms(_):
     """Tests that each byte of a canonical form, and of a hash from it, is required."""
+
     def answer(cpu, name, place, *values):
         memory, at = place.place()
         size = {"XXH32": 4, "XXH64": 8, "XXH128": 16}[name.split("_")[0]]
@@ -53,10 +65,14 @@ def canonical_forms(_):
         loaded = [memory.load(k, 1) for k in reversed(range(size))]
         loaded = [inverted(byte) if cpu.fault == (name, size - 1 - k) else byte for k, byte in enumerate(loaded)]
         loaded += [cpu.fresh("above", 8) for _ in range(16 - size)]
-        return tuple(side_by_side(loaded[k:k + 8]) for k in (0, 8))
-    faults = [(f"{name}_{way}", k) for name, size in (("XXH32", 4), ("XXH64", 8), ("XXH128", 16)) for k in (0, 1,
-        size // 2, size - 1)
-              for way in ("canonicalFromHash", "hashFromCanonical")]
+        return tuple(side_by_side(loaded[k : k + 8]) for k in (0, 8))
+
+    faults = [
+        (f"{name}_{way}", k)
+        for name, size in (("XXH32", 4), ("XXH64", 8), ("XXH128", 16))
+        for k in (0, 1, size // 2, size - 1)
+        for way in ("canonicalFromHash", "hashFromCanonical")
+    ]
     required(calls.canonical_forms, answer, faults, 6, "canonical forms")
 
 
@@ -70,14 +86,17 @@ def side_by_side(parts):
 
 def equal_hashes(_):
     """Tests that two hashes must be equal in both words, and that the differences are assumed to be nonzero."""
+
     def answer(cpu, _, low, high, other_low, other_high):
         same = low is other_low, high is other_high
         expect(len(cpu.not_zero), 2 - sum(same), "differences")
-        for is_same, a, b, found in zip(same, (low, high), (other_low, other_high), (cpu.not_zero[:1],
-                cpu.not_zero[-1:])):
+        for is_same, a, b, found in zip(
+            same, (low, high), (other_low, other_high), (cpu.not_zero[:1], cpu.not_zero[-1:])
+        ):
             expect(is_same or b is arithmetic("xor", 64, a, found[0]), True, "a word with a difference")
         ways = {None: all(same), "low": same[0], "high": same[1], "all": True, "none": False}
         return symbol("above", 64) if cpu.fault == "term" else int(ways[cpu.fault]) | 7 << 32, 0
+
     right = required(calls.is_equal, answer, ("low", "high", "all", "none", "term"), 4, "equal hashes")
     expect(len({*map(repr, right.calls)}), 4, "pairs of hashes")
 
@@ -113,10 +132,10 @@ def order(cpu, _, first, second):
 def orders(_):
     """Tests that the order of two hashes is that of their high words, then of their low words, in each combination."""
     faults = "high", "low", "turned", "negated", "zero", "one"
-    for ask, count, is_shared in ((calls.compare, 9, False), (calls.compare_in_one_place, 36, True)):
+    for ask, count, is_shared in ((calls.compare, 9, False), (calls.compare_in_one_place, 108, True)):
         with patched(Model, "seen", [], create=True):
             expect(ask(Model(order)), count, "orders")
-            seen = Model.seen
+            seen = vars(Model)["seen"]
         combinations = {*itertools.product((1, 0, -1), repeat=2)}
         expect({pair[:2] for pair in seen} == combinations, True, "combinations of orders")
         expect({pair[2] for pair in seen} == {is_shared}, True, "hashes in one place")
@@ -138,18 +157,26 @@ def least_values(_):
             if all(value_at(fact, {**dict.fromkeys(names_of(fact), 0), **point}) >= 0 for fact in polynomials.facts):
                 found.add(tuple(value_at(x, point) for x in found_values))
         return order(cpu, _, first, second)
+
     with patched(Model, "seen", [], create=True):
         calls.compare_in_one_place(Model(answer))
     expect(all(0 <= x < LIMIT for found_values in found for x in found_values), True, "words of hashes in one place")
-    for found_values in ((0, 0, 0), (0, 0, 1), (0, 1, 1), (0, 1, 2), (1, 0, 0), (1, 1, 0), (2, 1, 0), (1, 2, 1), (1, 0, 1),
-                         (LIMIT - 3, LIMIT - 2, LIMIT - 1), (LIMIT - 1, LIMIT - 2, LIMIT - 3)):
-        expect(found_values in found, True, f"the words {found_values} in one place")
+    for values in (
+        *itertools.product((0, 1, LIMIT - 1), repeat=3),
+        *itertools.permutations((LIMIT - 3, LIMIT - 2, LIMIT - 1)),
+    ):
+        expect(values in found, True, f"the words {values} in one place")
 
 
 def versions(_):
     """Tests that the version is 801, by its lower half."""
-    for answer, is_right in ((801, True), (801 | 1 << 32, True), (800, False), (802, False), (symbol("v64", 64),
-            False)):
+    for answer, is_right in (
+        (801, True),
+        (801 | 1 << 32, True),
+        (800, False),
+        (802, False),
+        (symbol("v64", 64), False),
+    ):
         cpu = Model(lambda *_, answer=answer: (answer, 0))
         if is_right:
             expect(calls.version(cpu), 1, "versions")
@@ -176,17 +203,26 @@ def forgotten_states(_):
 
     def refused(_, hash_name, state, secret=None):
         asked.append((hash_name, state.length, secret and secret.length))
-    with patched(calls, "reset", lambda cpu, request, state: (1 if cpu.fault == "reset" else 0, 0)), patched(calls,
-            "refused", refused):
+
+    with patched(calls, "reset", lambda cpu, request, state: (1 if cpu.fault == "reset" else 0, 0)), patched(
+        calls, "refused", refused
+    ):
         required(calls.forgotten, answer, ("reset", 0, 8, 16, 44), 6, "freed states", SIZES=sizes())
         long = calls.callers_secret()[0].length
-        expected = [("32", 48, None), ("64", 88, None), ("3-64", 576, None), ("3-64", 576, long), ("3-128", 576,
-            None), ("3-128", 576, long)]
+        expected = [
+            ("32", 48, None),
+            ("64", 88, None),
+            ("3-64", 576, None),
+            ("3-64", 576, long),
+            ("3-128", 576, None),
+            ("3-128", 576, long),
+        ]
         expect(repr(asked[:6]) == repr(expected), True, f"refused states: {asked[:6]}")
 
 
 def refusals(_):
     """Tests that a refused update and digest return an error and 0, and change nothing."""
+
     def run(fault=None, secret=None):
         cpu, asked = Model(SIZES=sizes()), []
         state = calls.new_state(cpu, "3-64")
@@ -201,9 +237,11 @@ def refusals(_):
                     expect(is_natural(minus(n, piece.length)), holds, "the greatest length")
                 expect(piece.length.parts == {("n",): 1}, True, "any length")
             return (0 if fault == ("ok", len(asked)) else 1), 0
+
         with patched(calls, "update", update), patched(calls, "digest", lambda *_: 7 if fault == "digest" else 0):
             calls.refused(cpu, "3-64", state, secret)
         expect([one is None for one in asked] == [False, True], True, "pieces")
+
     run()
     run(secret=Input("s", 200))
     for fault in (1, 2, ("ok", 1), ("ok", 2), "digest"):
@@ -213,9 +251,16 @@ def refusals(_):
 def secrets_of_callers(_):
     """Tests the lengths of a caller's secret: 136 bytes to 2 ^ 60, by stripes and up to 7 bytes more."""
     secret, facts = calls.callers_secret()
-    for q, u, holds in ((9, 0, True), (8, 7, False), (9, 7, True), (9, 8, False), (1 << 40, 0, True),
-            ((LONGEST_SECRET - 64) // 8, 0, True),
-                        ((LONGEST_SECRET - 64) // 8, 1, False), ((LONGEST_SECRET - 64) // 8 + 1, 0, False)):
+    for q, u, holds in (
+        (9, 0, True),
+        (8, 7, False),
+        (9, 7, True),
+        (9, 8, False),
+        (1 << 40, 0, True),
+        ((LONGEST_SECRET - 64) // 8, 0, True),
+        ((LONGEST_SECRET - 64) // 8, 1, False),
+        ((LONGEST_SECRET - 64) // 8 + 1, 0, False),
+    ):
         point = {"q": q, "u": u}
         expect(value_at(secret.length, point), 64 + 8 * q + u, "the length of a secret")
         expect(all(value_at(fact, point) >= 0 for fact in facts), holds, f"a secret of {q} stripes and {u} bytes")
@@ -225,8 +270,9 @@ def values_of_state(state, at, n):
     """Returns the least and the greatest value of a word in a state, under the facts."""
     x = state.load(at, n)
     names = names_of(x)
-    tops = [value_at(fact, {"v": 0}) for fact in polynomials.facts if names_of(fact) == {"v"}
-        and fact.parts[("v",)] == -1]
+    tops = [
+        value_at(fact, {"v": 0}) for fact in polynomials.facts if names_of(fact) == {"v"} and fact.parts[("v",)] == -1
+    ]
     expect(names == {"v"} and len(tops) == 1 and x.parts[("v",)] == 1, True, "a word of any value")
     return value_at(x, {"v": 0}), value_at(x, {"v": tops[0]})
 
@@ -238,6 +284,7 @@ def unmarked_states(_):
     def refused(_, hash_name, state, secret):
         at, n = {"32": (12, 4), "64": (40, 4)}.get(hash_name, (544, 8))
         spans.setdefault((hash_name, secret is not None), []).append(values_of_state(state, at, n))
+
     with patched(calls, "refused", refused):
         expect(calls.without_mark(Model(SIZES=sizes())), 16, "states without a mark")
     marks = {("32", False): [(0x32335858, 16)], ("64", False): [(0x34365858, 32)]}
@@ -246,8 +293,11 @@ def unmarked_states(_):
         marks[name, True] = [(mark, 1) for mark in sorted(layouts.CALLERS_MARKS)]
     expect(spans.keys() == marks.keys(), True, "forms of states")
     for form, known in marks.items():
-        ends = [0, *itertools.chain(*((mark, mark + count) for mark, count in known)),
-            1 << (64 if "-" in form[0] else 32)]
+        ends = [
+            0,
+            *itertools.chain(*((mark, mark + count) for mark, count in known)),
+            1 << (64 if "-" in form[0] else 32),
+        ]
         expected = [(low, high - 1) for low, high in zip(ends[::2], ends[1::2])]
         expect(spans[form] == expected, True, f"words of {form}: {spans[form]}")
 
@@ -257,8 +307,9 @@ def fields_of_states(_):
     at, q, capacity = types.SimpleNamespace(current_stripe=64, buffer_usage=80, total_bytes=88, capacity=6), 3, 6
     cases = list(calls.invalid_fields(at, q))
     expect(len(cases), 7, "cases of invalid fields")
-    for place, usage, total in itertools.product((0, 2, 3, 4, LIMIT - 1), (0, 1, 5, 6, 7, 8, LIMIT - 1), (0, 1, 2,
-            LIMIT - 1)):
+    for place, usage, total in itertools.product(
+        (0, 2, 3, 4, LIMIT - 1), (0, 1, 5, 6, 7, 8, LIMIT - 1), (0, 1, 2, LIMIT - 1)
+    ):
         is_invalid = place >= q or usage > capacity or usage == 0 and total != 0
         found = 0
         for fields, facts in cases:
@@ -279,17 +330,26 @@ def states_out_of_range(_):
     asked = []
 
     def refused(_, hash_name, state, secret):
-        values = tuple(repr(state.load(at, 8)) if isinstance(state.load(at, 8), (int, polynomials.Poly)) else None
-                       for at in (544, 64, 80, 88))
+        values = tuple(
+            repr(state.load(at, 8)) if isinstance(state.load(at, 8), (int, polynomials.Poly)) else None
+            for at in (544, 64, 80, 88)
+        )
         asked.append((hash_name, repr(secret and secret.length), values))
         if secret and names_of(secret.length) == {"v"}:
-            expect(is_natural(minus(135, secret.length)) and not is_natural(minus(134, secret.length)), True,
-                "short secrets")
+            expect(
+                is_natural(minus(135, secret.length)) and not is_natural(minus(134, secret.length)),
+                True,
+                "short secrets",
+            )
+
     with patched(calls, "refused", refused):
         expect(calls.out_of_range(Model(SIZES=sizes())), 60, "states out of range")
     expect(len({*asked}), 60, "states out of range")
-    for name, marks, count in (("3-64", layouts.OWN_MARKS, 7), ("3-128", layouts.OWN_MARKS, 7), ("3-64",
-            layouts.CALLERS_MARKS, 8)):
+    for name, marks, count in (
+        ("3-64", layouts.OWN_MARKS, 7),
+        ("3-128", layouts.OWN_MARKS, 7),
+        ("3-64", layouts.CALLERS_MARKS, 8),
+    ):
         for mark in marks:
             found = [one for one in asked if one[0] == name and one[2][0] == repr(mark)]
             expect(len(found), count, f"states of {name} with the mark {mark:#x}")
@@ -298,20 +358,26 @@ def states_out_of_range(_):
 
 def resets_with_short_secrets(_):
     """Tests that a reset with a secret that is too short returns an error and changes nothing."""
+
     def run(fault=None):
         seen = []
 
         def reset(_, request, state):
             seen.append(request.variant)
             expect(is_natural(minus(135, request.secret_length)), True, "a short secret")
-            expect(is_natural(minus(134, request.secret_length)) or is_natural(minus(request.secret_length, 1)),
-                False, "each short secret")
+            expect(
+                is_natural(minus(134, request.secret_length)) or is_natural(minus(request.secret_length, 1)),
+                False,
+                "each short secret",
+            )
             if fault == (request.variant, "store"):
                 state.store(64, 8, 5)
             return 0 if fault == (request.variant, "ok") else 1, 0
+
         with patched(calls, "reset", reset):
             count = calls.refused_resets(Model(SIZES=sizes()))
         expect(count == 2 and seen == ["secret", "both"], True, "refused resets")
+
     run()
     for fault in itertools.product(("secret", "both"), ("store", "ok")):
         refuses(lambda: run(fault), f"a refused reset with the fault {fault}", REFUSALS)
@@ -341,23 +407,28 @@ def key_of(request):
 
 def null_inputs(_):
     """Tests that inputs and secrets of no bytes are null, with the definition's value, or 0 without a secret."""
+
     def run(fault=None):
         known, calls_seen = Definition(), []
 
         def one_shot(cpu, hash_name, variant, message, length, *more):
             number = len(calls_seen)
-            calls_seen.append((hash_name, variant, message, length, tuple(x if isinstance(x, int) else repr(x)
-                for x in more)))
+            calls_seen.append(
+                (hash_name, variant, message, length, tuple(x if isinstance(x, int) else repr(x) for x in more))
+            )
             expect(cpu.not_zero == [], True, "terms that are assumed to be nonzero")
             size = more[1] if variant in ("secret", "both") else None
             value = 0 if variant == "secret" and not size else known.value(hash_name, variant, 0, size)
             return value + (fault == number)
+
         cpu = Model(one_shot=one_shot)
         cpu.not_zero = [symbol("x64", 64)]
-        with patched(definition, "program", lambda: known), patched(Request, "of_definition", lambda self,
-                _: known.value(*key_of(self))):
+        with patched(definition, "program", lambda: known), patched(
+            Request, "of_definition", lambda self, _: known.value(*key_of(self))
+        ):
             expect(calls.null_pointers(cpu), 14, "calls")
         return calls_seen
+
     seen = run()
     for k in range(14):
         refuses(lambda: run(k), f"a call {k} with another result", REFUSALS)
@@ -368,18 +439,29 @@ def null_inputs(_):
         for one in seen:
             if one[0] == name:
                 found[one[1]].append(one[4])
-        expect({variant: len(some) for variant, some in found.items()} == {"default": 1, "seed": 1, "secret": 2, "both": 2},
-            True, "kinds of calls")
+        expect(
+            {variant: len(some) for variant, some in found.items()}
+            == {"default": 1, "seed": 1, "secret": 2, "both": 2},
+            True,
+            "kinds of calls",
+        )
         expect(found["default"] == [()] and len(found["seed"][0]) == 1, True, "arguments")
         for variant, count in (("secret", 2), ("both", 3)):
-            expect(sorted(x[1] for x in found[variant]) == [0, 136] and {len(x) for x in found[variant]} == {count}, True,
-                "secrets")
-            expect({x[0] for x in found[variant] if x[1] == 0} == {0} and 0 not in {x[0] for x in found[variant] if x[1]},
-                True, "null secrets")
+            expect(
+                sorted(x[1] for x in found[variant]) == [0, 136] and {len(x) for x in found[variant]} == {count},
+                True,
+                "secrets",
+            )
+            expect(
+                {x[0] for x in found[variant] if x[1] == 0} == {0} and 0 not in {x[0] for x in found[variant] if x[1]},
+                True,
+                "null secrets",
+            )
 
 
 def one_place(_):
     """Tests that a message and a secret in one place have the definition's value of their bytes."""
+
     def run(fault=None, missing=()):
         known, seen = Definition(), []
 
@@ -388,20 +470,29 @@ def one_place(_):
             expect(memory is other and cpu.not_zero == [], True, "one place")
             expect(memory.length, max(at + n, first + size), "bytes of the place")
             seen.append((hash_name, variant, at, n, first, size))
-            value = known.value(hash_name, variant, *(seed or [0]), memory.data[first:first + size],
-                memory.data[at:at + n])
+            value = known.value(
+                hash_name, variant, *(seed or [0]), memory.data[first : first + size], memory.data[at : at + n]
+            )
             return value + (fault == len(seen))
-        cpu = Model(one_shot=one_shot, has=lambda request: (request.hash_name, request.variant,
-            request.length) not in missing)
+
+        cpu = Model(
+            one_shot=one_shot, has=lambda request: (request.hash_name, request.variant, request.length) not in missing
+        )
         cpu.not_zero = [symbol("x64", 64)]
-        with patched(definition, "program", lambda: known), patched(definition, "value", lambda _, hash_name, variant,
-                seed, own, message: known.value(
-                hash_name, variant, seed, bytes(own), bytes(message))):
+        with patched(definition, "program", lambda: known), patched(
+            definition,
+            "value",
+            lambda _, hash_name, variant, seed, own, message: known.value(
+                hash_name, variant, seed, bytes(own), bytes(message)
+            ),
+        ):
             return calls.in_one_place(cpu), seen
+
     count, seen = run()
     expect(count == len(seen) == len({*seen}) == 32, True, "calls")
-    expect({one[:2] for one in seen} == {*itertools.product(("3-64", "3-128"), ("secret", "both"))}, True,
-        "kinds of calls")
+    expect(
+        {one[:2] for one in seen} == {*itertools.product(("3-64", "3-128"), ("secret", "both"))}, True, "kinds of calls"
+    )
     expect({one[2:] for one in seen} == {*calls.ONE_PLACE} and len({*calls.ONE_PLACE}) == 8, True, "places")
     expect(any(at == first and n == size for at, n, first, size in calls.ONE_PLACE), True, "equal messages and secrets")
     for k in (1, 9, 32):
@@ -412,6 +503,7 @@ def one_place(_):
 
 def updates_of_nothing(_):
     """Tests that null chunks are before, between and after others, for each kind of stream."""
+
     def run(fault=None):
         known, seen, algorithms = Definition(), [], []
 
@@ -421,23 +513,39 @@ def updates_of_nothing(_):
 
         def reset(_, request, state):
             algorithms.append(key_of(request))
-            expect(state.length, 576 if "-" in request.hash_name else {"32": 48, "64": 88}[request.hash_name],
-                "bytes of a state")
+            expect(
+                state.length,
+                576 if "-" in request.hash_name else {"32": 48, "64": 88}[request.hash_name],
+                "bytes of a state",
+            )
             return fault == ("reset", len(algorithms)), 0
-        with patched(definition, "program", lambda: known), patched(Request, "of_definition", lambda self,
-                entries: known.value(
-                entries is known, *key_of(self))), patched(calls, "reset", reset), patched(calls, "update",
-                    update), patched(
-                calls, "digest", lambda _, hash_name, state: known.value(True, *algorithms[-1]) + (fault == ("digest",
-                    len(algorithms)))):
+
+        with patched(definition, "program", lambda: known), patched(
+            Request, "of_definition", lambda self, entries: known.value(entries is known, *key_of(self))
+        ), patched(calls, "reset", reset), patched(calls, "update", update), patched(
+            calls,
+            "digest",
+            lambda _, hash_name, state: known.value(True, *algorithms[-1]) + (fault == ("digest", len(algorithms))),
+        ):
             expect(calls.updates_of_nothing(Model(SIZES=sizes())), 30, "streams")
         return seen, algorithms
+
     seen, algorithms = run()
     expect([piece is None for piece in seen] == [True, False, True] * 30, True, "null chunks")
     expect([piece.length for piece in seen[1::3]] == [0, 5, 33, 300, 700] * 6, True, "lengths of chunks")
-    expect([one[:2] for one in algorithms[::5]] == [("32", "seed"), ("64", "seed"), ("3-64", "default"), ("3-128",
-        "default"), ("3-64", "secret"),
-                                              ("3-128", "both")], True, "kinds of streams")
+    expect(
+        [one[:2] for one in algorithms[::5]]
+        == [
+            ("32", "seed"),
+            ("64", "seed"),
+            ("3-64", "default"),
+            ("3-128", "default"),
+            ("3-64", "secret"),
+            ("3-128", "both"),
+        ],
+        True,
+        "kinds of streams",
+    )
     expect([one[3] for one in algorithms[::5]] == [None] * 4 + [136] * 2, True, "secrets")
     for fault in (("update", 1), ("update", 90), ("reset", 1), ("reset", 30), ("digest", 1), ("digest", 30)):
         refuses(lambda: run(fault), f"a stream with the fault {fault}", REFUSALS)
@@ -449,13 +557,17 @@ def derived_secrets(_):
 
     def answer(cpu, name, place, seed):
         memory, at = place.place()
-        expect(name == "XXH3_generateSecret_fromSeed" and memory.length == 192 and at == 0 and memory.alignment == 1,
-            True, "a derived secret")
+        expect(
+            name == "XXH3_generateSecret_fromSeed" and memory.length == 192 and at == 0 and memory.alignment == 1,
+            True,
+            "a derived secret",
+        )
         expect(cpu.not_zero == [], True, "terms that are assumed to be nonzero")
         seeds.append(seed)
         for k in range(192):
             memory.store(k, 1, k ^ (cpu.fault == (k, seed == 0 if isinstance(seed, int) else False)))
         return 0, 0
+
     with patched(definition, "program", lambda: known):
         required(calls.derived_secret, answer, itertools.product((0, 100, 191), (False, True)), 2, "derived secrets")
     expect(seeds[0] is symbol("seed64", 64) and seeds[1] == 0, True, "seeds")
@@ -467,9 +579,13 @@ def generated_secrets(_):
 
     def generated(message, size):
         asked.append((message.length(), size))
-        expect(message.first == 0 and message.end == message.source.length and message.source.name == "m", True,
-            "a message")
+        expect(
+            message.first == 0 and message.end == message.source.length and message.source.name == "m",
+            True,
+            "a message",
+        )
         return [(k + message.length()) % 256 for k in range(size)]
+
     known = types.SimpleNamespace(run=lambda: {"generated_secret": generated})
 
     def program(crates, names):
@@ -478,26 +594,56 @@ def generated_secrets(_):
 
     def answer(cpu, name, place, size, source, length):
         memory, at = place.place()
-        expect(name == "proved_XXH3_generateSecret" and at == 0 and memory.length == size and memory.alignment == 1,
-            True, "a generated secret")
+        expect(
+            name == "proved_XXH3_generateSecret" and at == 0 and memory.length == size and memory.alignment == 1,
+            True,
+            "a generated secret",
+        )
         expect(source == 0 if not length else source.place()[0].length == length, True, "a seed")
         for k in range(size if size >= 136 else 0):
             memory.store(k, 1, (k + length + (cpu.fault == (size, k))) % 256)
         if size < 136 and cpu.fault == (size, 0):
             memory.store(0, 1, 7)
         return (0 if size >= 136 else 1) ^ (cpu.fault == ("code", size)), 0
+
     pairs = [(135, 3), (136, 0), (137, 5), (200, 17), (1, 1)]
-    faults = [(135, 0), (1, 0), (136, 0), (136, 135), (200, 100), (137, 136), ("code", 135), ("code", 136), ("code",
-        200)]
+    faults = [
+        (135, 0),
+        (1, 0),
+        (136, 0),
+        (136, 135),
+        (200, 100),
+        (137, 136),
+        ("code", 135),
+        ("code", 136),
+        ("code", 200),
+    ]
     for most in (calls.MOST_NODES, -1):
         with patched(definition, "program", program), patched(calls, "MOST_NODES", most):
             required(lambda cpu: calls.generated_secrets(cpu, pairs), answer, faults, 5, "generated secrets")
     expect({*asked} == {(0, 136), (5, 137), (17, 200)}, True, "generated secrets")
     with patched(calls, "generated_secrets", lambda _, pairs: pairs):
-        expect(calls.some_secrets(None) == [(135, 3), (136, 0), (143, 3), (200, 17), (256, 241)], True,
-            "sizes of secrets")
+        expect(
+            calls.some_secrets(None) == [(135, 3), (136, 0), (143, 3), (200, 17), (256, 241)], True, "sizes of secrets"
+        )
 
 
-ALL = [canonical_forms, equal_hashes, orders, least_values, versions, forgotten_states, refusals, secrets_of_callers,
-       unmarked_states, fields_of_states, states_out_of_range, resets_with_short_secrets, null_inputs, one_place,
-       updates_of_nothing, derived_secrets, generated_secrets]
+ALL = [
+    canonical_forms,
+    equal_hashes,
+    orders,
+    least_values,
+    versions,
+    forgotten_states,
+    refusals,
+    secrets_of_callers,
+    unmarked_states,
+    fields_of_states,
+    states_out_of_range,
+    resets_with_short_secrets,
+    null_inputs,
+    one_place,
+    updates_of_nothing,
+    derived_secrets,
+    generated_secrets,
+]

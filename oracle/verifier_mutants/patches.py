@@ -27,7 +27,9 @@ class Loader(importlib.abc.MetaPathFinder, importlib.abc.SourceLoader):
             if os.path.isfile(base + end):
                 self.paths[name] = base + end
                 inside = [base] if end.startswith("/") else None
-                return importlib.util.spec_from_file_location(name, base + end, loader=self, submodule_search_locations=inside)
+                return importlib.util.spec_from_file_location(
+                    name, base + end, loader=self, submodule_search_locations=inside
+                )
         return None
 
     def get_filename(self, name):
@@ -60,9 +62,17 @@ def within(code):
 def own(code):
     """Returns what a code object does itself, without the functions in it."""
     numbers = [(x.__class__, repr(x)) for x in code.co_consts if not isinstance(x, types.CodeType)]
-    return (code.co_code, numbers, code.co_names, code.co_varnames, code.co_freevars, code.co_cellvars,
-            len(inner(code)),
-            code.co_exceptiontable, code.co_argcount)
+    return (
+        code.co_code,
+        numbers,
+        code.co_names,
+        code.co_varnames,
+        code.co_freevars,
+        code.co_cellvars,
+        len(inner(code)),
+        code.co_exceptiontable,
+        code.co_argcount,
+    )
 
 
 def differing(old, new):
@@ -95,8 +105,9 @@ class Patch:
         self.code = compile(edits.applied(one, TOP), self.path, "exec")
         self.pairs = list(differing(loader.codes[self.path], self.code))
         self.keys = {key_of(old) for old, _ in self.pairs}
-        self.is_inside = bool(self.pairs) and all(old.co_flags & 2 for old,
-                                                  _ in self.pairs)      # a function's locals are optimized
+        self.is_inside = bool(self.pairs) and all(
+            old.co_flags & 2 for old, _ in self.pairs
+        )  # a function's locals are optimized
 
     def put(self, by_code):
         """Gives the functions their other code. Returns whether there were any for each code object, and none inside

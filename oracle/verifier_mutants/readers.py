@@ -4,6 +4,7 @@ import os
 import struct
 import tempfile
 import types
+from typing import Any
 
 from oracle import antt
 from assembly import same_bytes
@@ -79,6 +80,9 @@ chosen n = Other.turned 8 n 1 + length (0x10 ∷ []) + one
 
 nested : ℕ → ℕ
 nested n = (λ f. f 2) (λ x. x + n)
+
+constant : List ℕ
+constant = 1 ∷ 2 ∷ []
 """
 
 
@@ -103,29 +107,45 @@ class Folder:
 
 def definitions(_):
     """Evaluates definitions of each form on numbers."""
-    names = "entry", "levels", "lists", "results", "partial", "chosen", "nested"
+    names = "entry", "levels", "lists", "results", "partial", "chosen", "nested", "constant"
     with Folder({("base", "Base"): BASE, ("more", "More"): MORE, ("more", "Lib"): "use unreadable {{{\n"}) as known:
         run = antt.Program(known, names).run()
         for a, b in ((3, 4), (3, 3), (0, 0), (0, 7)):
             expect(run["entry"](a, b), 10 * a + b if a == b else max(0, 10 * a + b - 1), "conditions")
         for n in (0, 1, 2, 5):
-            expect(run["levels"](n), 2 + 3 * n ** 2 - 1 + 3 + 3, "operators")
+            expect(run["levels"](n), 2 + 3 * n**2 - 1 + 3 + 3, "operators")
             expect(run["lists"](n) == (n, 2, 3, 4), True, "lists")
             expect(run["results"](n), 2 * n + 3 * n + n * (n + 1) // 2 + n + 2 * n + n + 1 + min(n, 3) + 2, "calls")
             expect(run["partial"](n), n + 4 + 3 * n, "a partial call")
             expect(run["chosen"](n), n * 2 + 1 + 1, "library functions")
             expect(run["nested"](n), n + 2, "functions of functions")
+        first = run["constant"]()
+        expect(first == (1, 2) and run["constant"]() is first, True, "a constant, which is computed once")
         module = known.modules["Rattle.base.specs.Base"]
-        expect({*module.definitions} == {"one", "twice", "sum_to", "suc_of", "choose", "unused"}
-            and module.constructors == {"Left": "Choice", "Right": "Choice"}, True, "definitions")
-        expect([module.definitions[name].is_unfoldable for name in ("choose", "one", "sum_to")] == [True, False,
-            False], True, "unfolded definitions")
-        expect(module.definitions["twice"].type_tokens == ["ℕ", "→", "ℕ"] and module.definitions["twice"].arity() == 1,
-            True, "a type")
+        expect(
+            {*module.definitions} == {"one", "twice", "sum_to", "suc_of", "choose", "unused"}
+            and module.constructors == {"Left": "Choice", "Right": "Choice"},
+            True,
+            "definitions",
+        )
+        expect(
+            [module.definitions[name].is_unfoldable for name in ("choose", "one", "sum_to")] == [True, False, False],
+            True,
+            "unfolded definitions",
+        )
+        expect(
+            module.definitions["twice"].type_tokens == ["ℕ", "→", "ℕ"] and module.definitions["twice"].arity() == 1,
+            True,
+            "a type",
+        )
         expect(repr(module.definitions["one"]) == "Rattle.base.specs.Base.one", True, "the name of a definition")
         more = known.modules["Rattle.more.specs.More"]
-        expect(more.modules == {"Other": "Rattle.base.specs.Base", "Base": "Rattle.base.specs.Base"}
-            and more.names["total"] == ("Rattle.base.specs.Base", "sum_to"), True, "imports")
+        expect(
+            more.modules == {"Other": "Rattle.base.specs.Base", "Base": "Rattle.base.specs.Base"}
+            and more.names["total"] == ("Rattle.base.specs.Base", "sum_to"),
+            True,
+            "imports",
+        )
         expect([*known.modules] == ["Rattle.base.specs.Base", "Rattle.more.specs.More"], True, "modules")
         expect(known.entry("entry") is more.definitions["entry"], True, "an entry")
         refuses(lambda: known.entry("missing"), "an entry without a definition", (Unreadable,))
@@ -135,15 +155,21 @@ def definitions(_):
         expect(changed.run()["partial"](5), 24, "the right-hand side again")
         seen = set()
         changed.run(traced=seen)["partial"](5)
-        expect({definition.name for definition in seen} == {"partial", "applied", "add_to"}, True,
-            "reached definitions")
-        for name, meaning in (("Left", ("constructor", "Choice", "Left")), ("min", ("library", "min")),
-                ("Other.turned", ("library", "rotate_left")), ("entry", more.definitions["entry"])):
+        expect(
+            {definition.name for definition in seen} == {"partial", "applied", "add_to"}, True, "reached definitions"
+        )
+        for name, meaning in (
+            ("Left", ("constructor", "Choice", "Left")),
+            ("min", ("library", "min")),
+            ("Other.turned", ("library", "rotate_left")),
+            ("entry", more.definitions["entry"]),
+        ):
             expect(known.resolve(more, name) == meaning, True, f"the meaning of {name}")
         for name in ("missing", "Other.missing", "Unknown.twice", "levels.twice"):
             refuses(lambda: known.resolve(more, name), f"the name {name}", (Unreadable,))
-        refuses(lambda: known.member("Rattle.std.specs.Prelude", "no_function", more), "an unknown function",
-            (Unreadable,))
+        refuses(
+            lambda: known.member("Rattle.std.specs.Prelude", "no_function", more), "an unknown function", (Unreadable,)
+        )
 
 
 def names_in_two_modules(_):
@@ -154,63 +180,110 @@ def names_in_two_modules(_):
 
 def unreadable(_):
     """Tests that text outside of the language is refused."""
-    for text in ("f n = n n2 )", "f n = let x = 1", "f n = if n then 1", "f n = (n", "f n = n +",
-            "f n = let x = 1 at x", "f n = ?", "f n = _", "f n = n → n", "f n = :", "f n = then", "f n = n = n",
-                 "f n = n in", "f n = missing n", "f n = λ x", "f ( zero n ) = n", "f n = 2 . 3"):
+    for text in (
+        "f n = n n2 )",
+        "f n = let x = 1",
+        "f n = if n then 1",
+        "f n = (n",
+        "f n = n +",
+        "f n = let x = 1 at x",
+        "f n = ?",
+        "f n = _",
+        "f n = n → n",
+        "f n = :",
+        "f n = then",
+        "f n = n = n",
+        "f n = n in",
+        "f n = missing n",
+        "f n = λ x",
+        "f ( zero n ) = n",
+        "f n = 2 . 3",
+    ):
         with Folder({("a", "A"): f"f : ℕ → ℕ\n{text}\n"}) as known:
             refuses(lambda: antt.Program(known, ["f"]).run(), f"the text {text}", (Unreadable, IndexError, ValueError))
     for text in ("use Rattle.std.{a", "use Rattle.std.{a} and more", "use Rattle std", "use Rattle.std as"):
         refuses(lambda: Folder({("a", "A"): text + "\n"}).__enter__(), f"the import {text}", (Unreadable,))
-    for values, tree in ((["1"], ("number", 1, 0)), (["0x1F"], ("number", 31, 0)), (["[]"], ("nil",)),
-            (["(", "f", "x", "y", ")"], ("apply", ("name", "f", 1), [("name", "x", 2), ("name", "y", 3)])),
-                         (["a", "-", "b", "-", "c"], ("operator", "-", ("operator", "-", ("name", "a", 0), ("name",
-                            "b", 2), 1), ("name", "c", 4), 3)),
-                         (["a", "∷", "b", "∷", "c"], ("operator", "∷", ("name", "a", 0), ("operator", "∷",
-                            ("name", "b", 2), ("name", "c", 4), 3), 1)),
-                         (["a", "^", "b", "^", "c"], ("operator", "^", ("name", "a", 0), ("operator", "^",
-                            ("name", "b", 2), ("name", "c", 4), 3), 1)),
-                         (["a", "+", "let", "x", "=", "1", "in", "x"], ("operator", "+", ("name", "a", 0), ("let", "x",
-                            ("number", 1, 5), ("name", "x", 7)), 1)),
-                         (["let", "x", ":", "ℕ", "→", "ℕ", "=", "1", "in", "x"], ("let", "x", ("number", 1, 7),
-                            ("name", "x", 9))),
-                         (["a", "+", "λ", "x", ".", "x"], ("operator", "+", ("name", "a", 0), ("lambda", ["x"],
-                            ("name", "x", 5)), 1)),
-                         (["if", "a", "then", "b", "else", "c"], ("if", ("name", "a", 1), ("name", "b", 3), ("name",
-                            "c", 5)))):
+    for values, tree in (
+        (["1"], ("number", 1, 0)),
+        (["0x1F"], ("number", 31, 0)),
+        (["[]"], ("nil",)),
+        (["(", "f", "x", "y", ")"], ("apply", ("name", "f", 1), [("name", "x", 2), ("name", "y", 3)])),
+        (
+            ["a", "-", "b", "-", "c"],
+            ("operator", "-", ("operator", "-", ("name", "a", 0), ("name", "b", 2), 1), ("name", "c", 4), 3),
+        ),
+        (
+            ["a", "∷", "b", "∷", "c"],
+            ("operator", "∷", ("name", "a", 0), ("operator", "∷", ("name", "b", 2), ("name", "c", 4), 3), 1),
+        ),
+        (
+            ["a", "^", "b", "^", "c"],
+            ("operator", "^", ("name", "a", 0), ("operator", "^", ("name", "b", 2), ("name", "c", 4), 3), 1),
+        ),
+        (
+            ["a", "+", "let", "x", "=", "1", "in", "x"],
+            ("operator", "+", ("name", "a", 0), ("let", "x", ("number", 1, 5), ("name", "x", 7)), 1),
+        ),
+        (["let", "x", ":", "ℕ", "→", "ℕ", "=", "1", "in", "x"], ("let", "x", ("number", 1, 7), ("name", "x", 9))),
+        (["a", "+", "λ", "x", ".", "x"], ("operator", "+", ("name", "a", 0), ("lambda", ["x"], ("name", "x", 5)), 1)),
+        (["if", "a", "then", "b", "else", "c"], ("if", ("name", "a", 1), ("name", "b", 3), ("name", "c", 5))),
+    ):
         reader = Reader(values)
-        expect(reader.expression() == tree and reader.at == len(values) and reader.peek() is None, True,
-            f"the tree of {values}")
-    for text, found in (("a b", [("a", 0), ("b", 2)]), ("(a)", [("(", 0), ("a", 1), (")", 2)]), ("λ x. y",
-            [("λ", 0), ("x", 2), (".", 3), ("y", 5)]), ("λx.", [("λ", 0), ("x", 1), (".", 2)]),
-                        ("a -- b\nc", [("a", 0), ("c", 7)]), (".", [(".", 0)]), ("a.b", [("a.b", 0)]), ("-- a\n", []),
-                            ("xy. z", [("xy", 0), (".", 2), ("z", 4)])):
+        expect(
+            reader.expression() == tree and reader.at == len(values) and reader.peek() is None,
+            True,
+            f"the tree of {values}",
+        )
+    for text, found in (
+        ("a b", [("a", 0), ("b", 2)]),
+        ("(a)", [("(", 0), ("a", 1), (")", 2)]),
+        ("λ x. y", [("λ", 0), ("x", 2), (".", 3), ("y", 5)]),
+        ("λx.", [("λ", 0), ("x", 1), (".", 2)]),
+        ("a -- b\nc", [("a", 0), ("c", 7)]),
+        (".", [(".", 0)]),
+        ("a.b", [("a.b", 0)]),
+        ("-- a\n", []),
+        ("xy. z", [("xy", 0), (".", 2), ("z", 4)]),
+    ):
         expect(antt.tokens(text) == found, True, f"the tokens of {text!r}: {antt.tokens(text)}")
     refuses(lambda: Reader([]).next(), "a token behind the end", (Unreadable,))
     refuses(lambda: Reader(["a"]).expect("b"), "another token", (Unreadable,))
 
 
 def called_functions(_):
-    """Tests partial and full calls, constants that are computed once, and functions that are noted."""
+    """Tests partial and full calls, and functions that are noted."""
     function = antt.Function(3, lambda a, b, c: (a, b, c))
     partial = antt.call(antt.call(function, 1), 2)
-    expect(isinstance(partial, antt.Function) and (partial.arity, partial.given) == (3, (1, 2)) and antt.call(partial,
-        3) == (1, 2, 3), True, "a partial call")
+    expect(
+        isinstance(partial, antt.Function)
+        and (partial.arity, partial.given) == (3, (1, 2))
+        and antt.call(partial, 3) == (1, 2, 3),
+        True,
+        "a partial call",
+    )
     more = antt.Function(1, lambda a: antt.Function(1, lambda b: a - b))
     expect(antt.call(more, 9, 4), 5, "a call with more arguments")
-    counted = []
-    value = antt.remembered(lambda: counted.append(1) or len(counted))
-    expect([value(), value()] == [1, 1], True, "a constant")
     seen = set()
-    expect(antt.noted(lambda a: a + 1, "a definition", seen)(4) == 5 and seen == {"a definition"}, True,
-        "a noted function")
+    expect(
+        antt.noted(lambda a: a + 1, "a definition", seen)(4) == 5 and seen == {"a definition"}, True, "a noted function"
+    )
     expect(antt.with_deep_recursion(lambda a, b: a + b, 3, 4), 7, "a call in another thread")
-    for name, arguments, result in (("from_le_bytes", (16, (1, 2, 3)), 0x201), ("from_le_bytes", (16, (5,)), 5),
-            ("from_le_bytes", (8, ()), 0), ("to_le_bytes", (32, 0x01020304), (4, 3, 2, 1)),
-                                    ("rotate_left", (32, 1, 31), 1 << 31), ("rotate_left", (32, 3, 31), 1 << 31 | 1),
-                                        ("rotate_left", (8, 0x80, 8), 0x80), ("bits", (32,), 32), ("bit_xor",
-                                            (12, 10), 6),
-                                    ("take", (0, (1, 2)), ()), ("drop", (5, (1, 2)), ()), ("length", ((1, 2),), 2),
-                                        ("nat_eq", (2, 2), True), ("nat_lt", (2, 2), False)):
+    for name, arguments, result in (
+        ("from_le_bytes", (16, (1, 2, 3)), 0x201),
+        ("from_le_bytes", (16, (5,)), 5),
+        ("from_le_bytes", (8, ()), 0),
+        ("to_le_bytes", (32, 0x01020304), (4, 3, 2, 1)),
+        ("rotate_left", (32, 1, 31), 1 << 31),
+        ("rotate_left", (32, 3, 31), 1 << 31 | 1),
+        ("rotate_left", (8, 0x80, 8), 0x80),
+        ("bits", (32,), 32),
+        ("bit_xor", (12, 10), 6),
+        ("take", (0, (1, 2)), ()),
+        ("drop", (5, (1, 2)), ()),
+        ("length", ((1, 2),), 2),
+        ("nat_eq", (2, 2), True),
+        ("nat_lt", (2, 2), False),
+    ):
         expect(antt.LIBRARY[name][1](*arguments) == result, True, f"{name} of {arguments}")
     of_two = "take drop slice_index bit_xor min max nat_lt nat_eq from_le_bytes to_le_bytes to_be_bytes swap_bytes"
     for arity, names in ((1, "bits byte_len length"), (2, of_two), (3, "rotate_left")):
@@ -224,26 +297,34 @@ def called_functions(_):
 def elf(sections, symbols, machine=62, flags=0, proof_class=1, magic=b"\x7fELF\x02\x01\x01"):
     """Returns an object of ELF with sections (name, type, flags, data, link, info, align, entry) and symbols (name,
     info, other, section, value, size). The tables of symbols and names follow the given sections."""
+
     def table(names):
         data, places = b"\0", {}
         for name in names:
             places[name], data = len(data), data + name.encode() + b"\0"
         return data, places
+
     strings, at_of = table([symbol[0] for symbol in symbols])
     packed = b"".join(struct.pack("<IBBHQQ", at_of[name] if name else 0, *rest) for name, *rest in symbols)
     count = len(sections)
-    whole = [("", 0, 0, b"", 0, 0, 0, 0), *sections, (".symtab", 2, 0, packed, count + 2, 1, 8, 24), (".strtab", 3, 0,
-        strings, 0, 0, 1, 0)]
+    whole = [
+        ("", 0, 0, b"", 0, 0, 0, 0),
+        *sections,
+        (".symtab", 2, 0, packed, count + 2, 1, 8, 24),
+        (".strtab", 3, 0, strings, 0, 0, 1, 0),
+    ]
     names, name_at = table([one[0] for one in whole] + [".shstrtab"])
     whole.append((".shstrtab", 3, 0, names, 0, 0, 1, 0))
     body, heads = b"", b""
     for name, section_type, section_flags, data, link, info, align, entry in whole:
         size = data if isinstance(data, int) else len(data)
-        heads += struct.pack("<IIQQQQIIQQ", name_at[name], section_type, section_flags, 0, 64 + len(body), size, link,
-            info, align, entry)
+        heads += struct.pack(
+            "<IIQQQQIIQQ", name_at[name], section_type, section_flags, 0, 64 + len(body), size, link, info, align, entry
+        )
         body += b"" if isinstance(data, int) else data
-    head = magic.ljust(16, b"\0") + struct.pack("<HHIQQQIHHHHHH", proof_class, machine, 1, 0, 0, 64 + len(body), flags, 64,
-        0, 0, 64, len(whole), len(whole) - 1)
+    head = magic.ljust(16, b"\0") + struct.pack(
+        "<HHIQQQIHHHHHH", proof_class, machine, 1, 0, 0, 64 + len(body), flags, 64, 0, 0, 64, len(whole), len(whole) - 1
+    )
     return head + body + heads
 
 
@@ -261,44 +342,106 @@ def note(content, proof_class=5, name=b"GNU\0"):
 CODE, DATA = bytes(range(16)), bytes(range(100, 132))
 PROPERTY, USED = struct.pack("<IIII", 0xC0000002, 4, 3, 0), struct.pack("<IIII", 0xC0010001, 4, 1, 0)
 RELOCATIONS = struct.pack("<QQq", 8, 3 << 32 | 4, -4) + struct.pack("<QQq", 2, 5 << 32 | 2, 6)
-SECTIONS = [(".text.f", 1, 6, CODE, 0, 0, 16, 0), (".rela.text.f", 4, 0x40, RELOCATIONS, 7, 1, 8, 24),
+SECTIONS = [
+    (".text.f", 1, 6, CODE, 0, 0, 16, 0),
+    (".rela.text.f", 4, 0x40, RELOCATIONS, 7, 1, 8, 24),
     (".rodata.cst16", 1, 0x12, DATA, 0, 0, 16, 16),
-            (".bss", 8, 3, 40, 0, 0, 8, 0), (".note.gnu.property", 7, 2, note(PROPERTY + USED), 0, 0, 8, 0),
-                (".note.GNU-stack", 1, 0, b"", 0, 0, 1, 0)]
-SYMBOLS = [("", 0, 0, 0, 0, 0), ("f", 0x12, 0, 1, 0, 16), ("g", 0x22, 2, 1, 4, 8), ("memcpy", 0x10, 0, 0, 0, 0),
-    ("local", 0x00, 0, 1, 12, 0), ("c", 0x01, 0, 3, 16, 16)]
+    (".bss", 8, 3, 40, 0, 0, 8, 0),
+    (".note.gnu.property", 7, 2, note(PROPERTY + USED), 0, 0, 8, 0),
+    (".note.GNU-stack", 1, 0, b"", 0, 0, 1, 0),
+]
+SYMBOLS = [
+    ("", 0, 0, 0, 0, 0),
+    ("f", 0x12, 0, 1, 0, 16),
+    ("g", 0x22, 2, 1, 4, 8),
+    ("memcpy", 0x10, 0, 0, 0, 0),
+    ("local", 0x00, 0, 1, 12, 0),
+    ("c", 0x01, 0, 3, 16, 16),
+]
 
 
 def objects(_):
     """Reads an object's headers, symbols, relocations, notes and parts."""
     object_ = read(elf(SECTIONS, SYMBOLS))
-    expect((object_.machine, object_.flags) == (62, 0) and [head.name for head in object_.heads] == ["",
-        *(one[0] for one in SECTIONS), ".symtab", ".strtab", ".shstrtab"], True, "sections")
+    expect(
+        (object_.machine, object_.flags) == (62, 0)
+        and [head.name for head in object_.heads]
+        == ["", *(one[0] for one in SECTIONS), ".symtab", ".strtab", ".shstrtab"],
+        True,
+        "sections",
+    )
     code, _, constants, zeros, notes = object_.heads[1:6]
     expect([tuple(symbol) for symbol in object_.symbols] == SYMBOLS, True, f"symbols: {object_.symbols}")
-    expect(object_.body(code) == CODE and object_.body(constants) == DATA and object_.body(zeros) == b"", True,
-        "bytes of sections")
+    expect(
+        object_.body(code) == CODE and object_.body(constants) == DATA and object_.body(zeros) == b"",
+        True,
+        "bytes of sections",
+    )
     expect([head.name for head in object_.loaded()] == [".text.f", ".rodata.cst16", ".bss"], True, "loaded sections")
-    expect(object_.relocations_of(code) == [(2, 2, ".rodata.cst16", 16, 6), (8, 4, "memcpy", 0, -4)]
-        and object_.relocations_of(constants) == [], True, "relocations")
-    expect(list(object_.notes()) == [(".note.gnu.property", 2, 5, b"GNU\0", PROPERTY[:12])]
-        and object_.body(notes) == note(PROPERTY + USED), True, "notes")
+    expect(
+        object_.relocations_of(code) == [(2, 2, ".rodata.cst16", 16, 6), (8, 4, "memcpy", 0, -4)]
+        and object_.relocations_of(constants) == [],
+        True,
+        "relocations",
+    )
+    expect(
+        list(object_.notes()) == [(".note.gnu.property", 2, 5, b"GNU\0", PROPERTY[:12])]
+        and object_.body(notes) == note(PROPERTY + USED),
+        True,
+        "notes",
+    )
     parts = object_.parts()
     expect([*parts] == [".text.f", ".rodata.cst16", ".bss", "names"], True, "parts")
-    expect(parts[".text.f"].body == CODE and parts[".text.f"].relocations == object_.relocations_of(code), True,
-        "a part")
-    expect((parts[".text.f"].head.kind, parts[".text.f"].head.size, parts[".text.f"].head.align,
-        parts[".text.f"].head.name) == (1, 16, 16, ""), True, "a part's header")
+    expect(
+        parts[".text.f"].body == CODE and parts[".text.f"].relocations == object_.relocations_of(code), True, "a part"
+    )
+    expect(
+        (
+            parts[".text.f"].head.kind,
+            parts[".text.f"].head.size,
+            parts[".text.f"].head.align,
+            parts[".text.f"].head.name,
+        )
+        == (1, 16, 16, ""),
+        True,
+        "a part's header",
+    )
     head, _, names = parts["names"]
     expect(head == (62, 0, b"\1\0\0", [".text.f", ".rodata.cst16", ".bss"]), True, "the names' header")
-    expect(names == [("f", ".text.f+0x0", 16, 0x12, 0), ("g", ".text.f+0x4", 8, 0x22, 2), ("memcpy", 0x10, 0),
-        "the stack may be executed: False"], True, f"names: {names}")
-    expect(object_.added()["notes"].relocations == list(object_.notes())
-        and object_.added()["frames"].relocations == [], True, "added parts")
-    other = read(elf([*SECTIONS[:4], (".note.a", 7, 2, note(b"12345678", 9, b"AB\0"), 0, 0, 4, 0), (".note.b", 7, 0,
-        note(b"1234", 9), 0, 0, 4, 0), *SECTIONS[5:]], SYMBOLS, flags=7, machine=183))
-    expect(list(other.notes()) == [(".note.a", 2, 9, b"AB\0", b"12345678")] and other.flags == 7
-        and other.machine == 183, True, "other notes")
+    expect(
+        names
+        == [
+            ("f", ".text.f+0x0", 16, 0x12, 0),
+            ("g", ".text.f+0x4", 8, 0x22, 2),
+            ("memcpy", 0x10, 0),
+            "the stack may be executed: False",
+        ],
+        True,
+        f"names: {names}",
+    )
+    expect(
+        object_.added()["notes"].relocations == list(object_.notes()) and object_.added()["frames"].relocations == [],
+        True,
+        "added parts",
+    )
+    other = read(
+        elf(
+            [
+                *SECTIONS[:4],
+                (".note.a", 7, 2, note(b"12345678", 9, b"AB\0"), 0, 0, 4, 0),
+                (".note.b", 7, 0, note(b"1234", 9), 0, 0, 4, 0),
+                *SECTIONS[5:],
+            ],
+            SYMBOLS,
+            flags=7,
+            machine=183,
+        )
+    )
+    expect(
+        list(other.notes()) == [(".note.a", 2, 9, b"AB\0", b"12345678")] and other.flags == 7 and other.machine == 183,
+        True,
+        "other notes",
+    )
     expect([(part.head, part.body) for part in object_.added().values()] == [((), b"")] * 2, True, "added parts")
     turned = read(elf(SECTIONS, [SYMBOLS[0], ("memset", 0x10, 0, 0, 0, 0), *SYMBOLS[3:0:-1], *SYMBOLS[4:]]))
     found = turned.parts()["names"].relocations
@@ -307,29 +450,54 @@ def objects(_):
 
 def notes_of_objects(_):
     """Tests notes, sorted names, relocations and sums of objects."""
+    expected: Any
+    last: Any
+    proof_class: Any
+    section: Any
+    whole: Any
     object_ = read(elf(SECTIONS, SYMBOLS))
     parts = object_.parts()
     two = note(b"12345", 9) + bytes(3) + note(b"1234", 8)
     for align in (0, 1, 4):
-        whole = types.SimpleNamespace(heads=[types.SimpleNamespace(kind=7, flags=2, align=align, name=".note.x")],
-            body=lambda _: two)
-        expect([one[2:] for one in same_bytes.Object.notes(whole)] == [(9, b"GNU\0", b"12345"), (8, b"GNU\0",
-            b"1234")], True, "notes at a multiple of 4")
+        whole = types.SimpleNamespace(
+            heads=[types.SimpleNamespace(kind=7, flags=2, align=align, name=".note.x")], body=lambda _: two
+        )
+        expect(
+            [one[2:] for one in same_bytes.Object.notes(whole)] == [(9, b"GNU\0", b"12345"), (8, b"GNU\0", b"1234")],
+            True,
+            "notes at a multiple of 4",
+        )
     section = types.SimpleNamespace(name=".text.f", kind=1)
-    last = types.SimpleNamespace(heads=[section, types.SimpleNamespace(kind=4, info=0)], body=lambda _: RELOCATIONS,
-        relocation=lambda *one: one)
-    expect(same_bytes.Object.relocations_of(last, section) == [(2, 5 << 32 | 2, 6), (8, 3 << 32 | 4, -4)], True,
-        "relocations of the last section")
-    for proof_class, info, expected in ((1, 0x00, (5, 1, ".text.f", 8, 0)), (4, 0x06, (5, 2, ".text.f by a symbol of kind 6",
-            8, 0)), (2, 0x02, (5, 2, ".text.f", 8, 0))):
-        whole = types.SimpleNamespace(machine=62, heads=[types.SimpleNamespace(name=".text.f", flags=6)],
-            symbols=[types.SimpleNamespace(info=info, section=0, value=12, name="x")])
-        expect(same_bytes.Object.relocation(whole, 5, proof_class, -4) == expected, True, f"a relocation of kind {proof_class}")
+    last = types.SimpleNamespace(
+        heads=[section, types.SimpleNamespace(kind=4, info=0)], body=lambda _: RELOCATIONS, relocation=lambda *one: one
+    )
+    expect(
+        same_bytes.Object.relocations_of(last, section) == [(2, 5 << 32 | 2, 6), (8, 3 << 32 | 4, -4)],
+        True,
+        "relocations of the last section",
+    )
+    for proof_class, info, expected in (
+        (1, 0x00, (5, 1, ".text.f", 8, 0)),
+        (4, 0x06, (5, 2, ".text.f by a symbol of kind 6", 8, 0)),
+        (2, 0x02, (5, 2, ".text.f", 8, 0)),
+    ):
+        whole = types.SimpleNamespace(
+            machine=62,
+            heads=[types.SimpleNamespace(name=".text.f", flags=6)],
+            symbols=[types.SimpleNamespace(info=info, section=0, value=12, name="x")],
+        )
+        expect(
+            same_bytes.Object.relocation(whole, 5, proof_class, -4) == expected,
+            True,
+            f"a relocation of kind {proof_class}",
+        )
     sums = same_bytes.sums(object_)
-    expect(sums == same_bytes.sums(read(elf(SECTIONS, SYMBOLS))) and {*sums} == {*parts, "notes", "frames"}, True,
-        "sums")
-    changed = same_bytes.sums(read(elf([(*SECTIONS[0][:3], CODE[1:] + b"x", *SECTIONS[0][4:]), *SECTIONS[1:]],
-        SYMBOLS)))
+    expect(
+        sums == same_bytes.sums(read(elf(SECTIONS, SYMBOLS))) and {*sums} == {*parts, "notes", "frames"}, True, "sums"
+    )
+    changed = same_bytes.sums(
+        read(elf([(*SECTIONS[0][:3], CODE[1:] + b"x", *SECTIONS[0][4:]), *SECTIONS[1:]], SYMBOLS))
+    )
     expect([name for name in sums if sums[name] != changed[name]] == [".text.f"], True, "a changed sum")
     with tempfile.NamedTemporaryFile("w") as file:
         file.write("".join(f"{total}  {name}\n" for name, total in sums.items()))
@@ -339,31 +507,51 @@ def notes_of_objects(_):
 
 def wrong_objects(_):
     """Tests that other files, and objects with another structure, are refused or differ."""
+    field: Any
+    k: Any
+    symbols: Any
     right = elf(SECTIONS, SYMBOLS)
-    for data, what in ((b"\x7fELF\x01\x01" + right[6:], "32 bits"), (b"\x7fELF\x02\x02" + right[6:],
-            "another order of bytes"), (b"\x7fELG" + right[4:], "another format"),
-                       (elf(SECTIONS, SYMBOLS, proof_class=2), "a program"), (elf([*SECTIONS, (".symtab2", 2, 0, b"", 8, 0,
-                           8, 24)], SYMBOLS), "two tables of symbols")):
+    for data, what in (
+        (b"\x7fELF\x01\x01" + right[6:], "32 bits"),
+        (b"\x7fELF\x02\x02" + right[6:], "another order of bytes"),
+        (b"\x7fELG" + right[4:], "another format"),
+        (elf(SECTIONS, SYMBOLS, proof_class=2), "a program"),
+        (elf([*SECTIONS, (".symtab2", 2, 0, b"", 8, 0, 8, 24)], SYMBOLS), "two tables of symbols"),
+    ):
         refuses(lambda: read(data), what, FAULTS)
     twice = read(elf([*SECTIONS, SECTIONS[0]], SYMBOLS))
     refuses(twice.parts, "two sections of one name", FAULTS)
     old = read(elf([SECTIONS[0], (".rel.text.f", 9, 0x40, RELOCATIONS, 7, 1, 8, 24), *SECTIONS[2:]], SYMBOLS))
     refuses(lambda: old.relocations_of(old.heads[1]), "relocations of another kind", FAULTS)
     elsewhere = read(elf([SECTIONS[0], (*SECTIONS[1][:5], 3, *SECTIONS[1][6:]), *SECTIONS[2:]], SYMBOLS))
-    expect(elsewhere.relocations_of(elsewhere.heads[1]) == []
-        and len(elsewhere.relocations_of(elsewhere.heads[3])) == 2, True, "relocations of another section")
+    expect(
+        elsewhere.relocations_of(elsewhere.heads[1]) == [] and len(elsewhere.relocations_of(elsewhere.heads[3])) == 2,
+        True,
+        "relocations of another section",
+    )
     parts = read(right).parts()
-    for k, change in ((3, (".text.f", 1, 6, CODE[::-1], 0, 0, 16, 0)), (0, (".text.f", 1, 6, CODE, 0, 0, 32, 0)), (0,
-            (".text.f", 1, 7, CODE, 0, 0, 16, 0)), (0, (".text.g", 1, 6, CODE, 0, 0, 16, 0))):
+    for k, change in (
+        (3, (".text.f", 1, 6, CODE[::-1], 0, 0, 16, 0)),
+        (0, (".text.f", 1, 6, CODE, 0, 0, 32, 0)),
+        (0, (".text.f", 1, 7, CODE, 0, 0, 16, 0)),
+        (0, (".text.g", 1, 6, CODE, 0, 0, 16, 0)),
+    ):
         other = read(elf([change, *SECTIONS[1:]], SYMBOLS)).parts()
-        expect(len(list(same_bytes.differences(parts, other, same_bytes.difference))) > 0, True,
-            f"an object that differs {k}")
+        expect(
+            len(list(same_bytes.differences(parts, other, same_bytes.difference))) > 0,
+            True,
+            f"an object that differs {k}",
+        )
     for k, field in ((1, 1), (1, 2), (1, 4), (1, 5), (2, 3), (3, 1)):
         symbols = [list(one) for one in SYMBOLS]
         symbols[k][field] += 1
         other = read(elf(SECTIONS, [tuple(one) for one in symbols])).parts()
-        expect([line.split(":")[0] for line in same_bytes.differences(parts, other,
-            same_bytes.difference)][-1:] == ["names"], True, f"a symbol {k} that differs")
+        expect(
+            [line.split(":")[0] for line in same_bytes.differences(parts, other, same_bytes.difference)][-1:]
+            == ["names"],
+            True,
+            f"a symbol {k} that differs",
+        )
 
 
 # ---- sources
@@ -419,39 +607,51 @@ def followed(text, proof_class="x86-64"):
 
 def sources(_):
     """Tests that a source with a dropped, doubled or changed line is refused, except instructions and frames."""
+    other: Any
     followed(RIGHT)
     lines = RIGHT.split("\n")[:-1]
     free = {*range(9, 24), 28, 29, 30}
     for k, line in enumerate(lines):
-        for what, other in (("dropped", lines[:k] + lines[k + 1:]), ("twice", lines[:k + 1] + lines[k:]), ("changed",
-                lines[:k] + [line + "x"] + lines[k + 1:]),
-                            ("with a comment", lines[:k] + [line + " # more"] + lines[k + 1:]), ("with a space",
-                                lines[:k] + [" " + line] + lines[k + 1:])):
+        for what, other in (
+            ("dropped", lines[:k] + lines[k + 1 :]),
+            ("twice", lines[: k + 1] + lines[k:]),
+            ("changed", lines[:k] + [line + "x"] + lines[k + 1 :]),
+            ("with a comment", lines[:k] + [line + " # more"] + lines[k + 1 :]),
+            ("with a space", lines[:k] + [" " + line] + lines[k + 1 :]),
+        ):
             if k in free and what in ("dropped", "twice"):
                 followed("\n".join([*other, ""]))
             elif k not in free or what != "changed":
                 refuses(lambda: followed("\n".join([*other, ""])), f"the line {line!r} {what}", REFUSALS)
-    for what, text in (("no last line end", RIGHT[:-1]), ("a line at the end", RIGHT + "\tnop\n"), ("an empty line",
-            RIGHT.replace("\tret\n", "\tret\n\n")), ("another letter", RIGHT.replace("tests", "tösts")),
-                       ("a prefix", RIGHT.replace("\tret\n", "\trep ret\n")), ("a byte of 256",
-                           RIGHT.replace(".byte 15,133", ".byte 15,256")), ("a constant of 256",
-                               RIGHT.replace(".byte 0,255", ".byte 0,256")),
-                       ("a jump to a register", RIGHT.replace("jne .L1_0", "jmp *%rax")), ("two instructions",
-                           RIGHT.replace("\tret\n", "\tret; ret\n")), ("another alignment",
-                               RIGHT.replace(".p2align 4", ".p2align 7")),
-                       ("a weak name that isn't hidden", RIGHT.replace("\t.hidden f\n", "")),
-                           ("a guard of another name", RIGHT.replace(".ifndef f", ".ifndef g")),
-                       ("a global name with a guard", RIGHT.replace("\t.weak f\n\t.hidden f\n", "\t.globl f\n")),
-                           ("another note", RIGHT.replace("0xc0000002,4,2,0", "0xc0000002,4,3,0"))):
+    for what, text in (
+        ("no last line end", RIGHT[:-1]),
+        ("a line at the end", RIGHT + "\tnop\n"),
+        ("an empty line", RIGHT.replace("\tret\n", "\tret\n\n")),
+        ("another letter", RIGHT.replace("tests", "tösts")),
+        ("a prefix", RIGHT.replace("\tret\n", "\trep ret\n")),
+        ("a byte of 256", RIGHT.replace(".byte 15,133", ".byte 15,256")),
+        ("a constant of 256", RIGHT.replace(".byte 0,255", ".byte 0,256")),
+        ("a jump to a register", RIGHT.replace("jne .L1_0", "jmp *%rax")),
+        ("two instructions", RIGHT.replace("\tret\n", "\tret; ret\n")),
+        ("another alignment", RIGHT.replace(".p2align 4", ".p2align 7")),
+        ("a weak name that isn't hidden", RIGHT.replace("\t.hidden f\n", "")),
+        ("a guard of another name", RIGHT.replace(".ifndef f", ".ifndef g")),
+        ("a global name with a guard", RIGHT.replace("\t.weak f\n\t.hidden f\n", "\t.globl f\n")),
+        ("another note", RIGHT.replace("0xc0000002,4,2,0", "0xc0000002,4,3,0")),
+    ):
         refuses(lambda: followed(text), what, REFUSALS)
-    for text in (RIGHT.replace("\t.ifndef f\n", "").replace("\t.endif\n", ""), RIGHT.replace("\t.ifndef f\n",
-            "").replace("\t.endif\n", "").replace("\t.weak f\n\t.hidden f\n", "\t.globl f\n"),
-                 RIGHT.replace("\t.ifndef f\n", "").replace("\t.endif\n", "").replace("\t.weak f\n\t.hidden f\n", "")):
+    for text in (
+        RIGHT.replace("\t.ifndef f\n", "").replace("\t.endif\n", ""),
+        RIGHT.replace("\t.ifndef f\n", "")
+        .replace("\t.endif\n", "")
+        .replace("\t.weak f\n\t.hidden f\n", "\t.globl f\n"),
+        RIGHT.replace("\t.ifndef f\n", "").replace("\t.endif\n", "").replace("\t.weak f\n\t.hidden f\n", ""),
+    ):
         followed(text)
     dotted = RIGHT.replace("\t.ifndef f\n", "").replace("\t.endif\n", "")
     dotted = dotted.replace("\t.weak f\n\t.hidden f\n", "\t.globl f\n")
     for old in (".text.f", ".globl f", ".type f", "\nf:", ".size f", ",.-f"):
-        dotted = dotted.replace(old, old[:old.rindex("f")] + "a.b" + old[old.rindex("f") + 1:])
+        dotted = dotted.replace(old, old[: old.rindex("f")] + "a.b" + old[old.rindex("f") + 1 :])
     followed(dotted)
     for old in (".globl a.b", ".type a.b", "\na.b:", ".size a.b", ",.-a.b"):
         other = dotted.replace(old, old.replace("a.b", "axb"))
@@ -461,11 +661,20 @@ def sources(_):
     try:
         followed(wrong)
     except REFUSALS as error:
-        expect(f":{wrong.split(chr(10)).index(chr(9) + 'pop rbx') + 1}:" in str(error), True,
-            "the number of a wrong line")
+        expect(
+            f":{wrong.split(chr(10)).index(chr(9) + 'pop rbx') + 1}:" in str(error), True, "the number of a wrong line"
+        )
     else:
         raise Wrong("a wrong line isn't refused")
 
 
-ALL = [definitions, names_in_two_modules, unreadable, called_functions, objects, notes_of_objects, wrong_objects,
-       sources]
+ALL = [
+    definitions,
+    names_in_two_modules,
+    unreadable,
+    called_functions,
+    objects,
+    notes_of_objects,
+    wrong_objects,
+    sources,
+]

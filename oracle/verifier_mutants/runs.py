@@ -6,17 +6,20 @@ import json
 import multiprocessing.connection
 import os
 import resource
+import signal
 import sys
 import tempfile
 import time
 import traceback
+from typing import Any, Optional
 
 from oracle import antt
 
 from . import edits, patches
 
-LONGEST, MOST_MEMORY = 40, 5 << 30      # CPU seconds and bytes of memory of a mutant
-BUDGET = {"value": 20, "processor": 3, "right": 5, "planted": 5}      # CPU seconds of the checks of a kind, for a mutant
+LONGEST, MOST_MEMORY = 40, 5 << 30  # CPU seconds and bytes of memory of a mutant
+WAITING = 600  # seconds until a mutant whose processes wait for each other ends
+BUDGET = {"value": 60, "processor": 3, "right": 5, "planted": 5}  # CPU seconds of the checks of a kind, for a mutant
 UNDETECTED, EQUAL = "undetected", "equal code"
 
 # The mutant's title, whether it is of a decision, what detected it and by which check, whether it was put into the
@@ -38,6 +41,7 @@ class Known:
 
 # ---- which checks may detect a mutant
 
+
 class Coverage:
     """What each check calls, and where each planted file is refused."""
 
@@ -56,22 +60,28 @@ class Coverage:
     def can_put(self, patch):
         names = {name.rpartition(".")[2] for _, name in patch.keys}
         return any(called & patch.keys for called in self.called.values()) or any(
-            path == patch.path and function in names for frames in self.frames.values() for path, function, _ in frames)
+            path == patch.path and function in names for frames in self.frames.values() for path, function, _ in frames
+        )
 
     def chosen(self, checks, patch, one, is_warm):
         """Yields the numbers of the checks that may detect a mutant, the most likely ones first."""
+        ranks: Any
         for check_type in BUDGET:
-            found = [k for k in self.called if checks[k].type == check_type and (not is_warm or self.called[k] & patch.keys)]
+            found = [
+                k for k in self.called if checks[k].type == check_type and (not is_warm or self.called[k] & patch.keys)
+            ]
             yield from self.within_budget(sorted(found, key=lambda k: self.seconds[k]), check_type)
         function, ranks = one.function.rpartition(".")[2], {}
         for k, frames in self.frames.items():
-            here = [(at != one.line, name != function, i) for i, (path, name, at) in enumerate(frames)
-                    if path == patch.path]
+            here = [
+                (at != one.line, name != function, i) for i, (path, name, at) in enumerate(frames) if path == patch.path
+            ]
             if here and (not is_warm or min(here)[:2] != (True, True)):
                 ranks[k] = min(here)
         yield from self.within_budget(sorted(ranks, key=ranks.get), "planted")
 
     def within_budget(self, numbers, check_type):
+        used: Any
         used = 0
         for count, k in enumerate(numbers):
             used += self.seconds[k]
@@ -87,6 +97,7 @@ def codes_called(ask, files):
     def called(frame, event, _):
         if event == "call" and frame.f_code.co_filename in files:
             found.add(frame.f_code)
+
     sys.setprofile(called)
     try:
         ask()
@@ -97,19 +108,25 @@ def codes_called(ask, files):
 
 def frames_of(planted):
     """Runs a planted file's test. Returns where the refusal was raised: (file, function, line), the innermost first."""
+    error: Optional[BaseException]
     from oracle.symbolic_terms import REFUSALS
+
     found = []
     try:
         planted.ask()
-    except REFUSALS as error:
+    except REFUSALS as refusal:
+        error = refusal
         while error:
-            found += [(frame.filename, frame.name, frame.lineno)
-                      for frame in reversed(traceback.extract_tb(error.__traceback__))]
+            found += [
+                (frame.filename, frame.name, frame.lineno)
+                for frame in reversed(traceback.extract_tb(error.__traceback__))
+            ]
             error = error.__cause__ or error.__context__
     return found
 
 
 # ---- one mutant
+
 
 def place_of(one):
     return f"{one.path} {one.function or 'module'}"
@@ -139,13 +156,14 @@ def outcome(known, coverage, one):
 
 
 def in_process(known, coverage, one):
-    """Runs the checks on a mutant in a process of its own. One that doesn't end in time is detected: a task that doesn't
-    end doesn't pass."""
+    """Runs the checks on a mutant in a process of its own. One that doesn't end in time is detected: a task that
+    doesn't end doesn't pass."""
     ours, theirs = os.pipe()
     child = os.fork()
     if not child:
         try:
             resource.setrlimit(resource.RLIMIT_CPU, (LONGEST, LONGEST + 1))
+            signal.alarm(WAITING)
             resource.setrlimit(resource.RLIMIT_AS, (MOST_MEMORY, MOST_MEMORY))
             nothing = os.open(os.devnull, os.O_WRONLY)
             os.dup2(nothing, 1)
@@ -158,12 +176,16 @@ def in_process(known, coverage, one):
         data = pipe.read()
     used = os.wait4(child, 0)[2]
     what, by, is_warm = json.loads(data) if data else ("right", "no end", True)
-    return Outcome(edits.title_of(one), place_of(one), one.decides, one.check, what, by, is_warm,
-                   used.ru_utime + used.ru_stime)
+    return Outcome(
+        edits.title_of(one), place_of(one), one.decides, one.check, what, by, is_warm, used.ru_utime + used.ru_stime
+    )
 
 
 def run_all(known, coverage, mutants, jobs, seconds=None):
     """Yields the outcomes of mutants, by several processes at once, until the CPU seconds are used."""
+    data: Any
+    pipe: Any
+    pipes: Any
     pipes = {}
     for k in range(jobs):
         ours, theirs = os.pipe()

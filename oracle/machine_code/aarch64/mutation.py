@@ -15,17 +15,24 @@ from . import objects
 from .objects import SIZE, Shift, listing
 from .table import TABLE, Processor
 
-MANY, FEW = 1000, 40              # changes of a random seed, with --all and without
+MANY, FEW = 1000, 40  # changes of a random seed, with --all and without
 BITS = 8 * SIZE
 
 
 # Names of the relocations' types.
-TYPES = {objects.PAGE: "ADR_PREL_PG_HI21", objects.LOW_ADD: "ADD_ABS_LO12_NC", objects.JUMP: "JUMP26",
-         objects.CALL: "CALL26", objects.LOW_64: "LDST64_ABS_LO12_NC", objects.LOW_128: "LDST128_ABS_LO12_NC"}
+TYPES = {
+    objects.PAGE: "ADR_PREL_PG_HI21",
+    objects.LOW_ADD: "ADD_ABS_LO12_NC",
+    objects.JUMP: "JUMP26",
+    objects.CALL: "CALL26",
+    objects.LOW_64: "LDST64_ABS_LO12_NC",
+    objects.LOW_128: "LDST128_ABS_LO12_NC",
+}
 
 
 class Library(executions.Library):
     """The C library for 64-bit ARM, under qemu, beside the reference's header."""
+
     tools, emulator = "aarch64-linux-gnu-", ["qemu-aarch64", "-L", "/usr/aarch64-linux-gnu"]
 
     def __init__(self, program, folder):
@@ -36,11 +43,12 @@ class Library(executions.Library):
         self.program = program
 
     def with_bit(self, text):
-        """Returns what differs if a bit of an instruction is inverted, or an empty string. `text` is that of `random_changes`."""
+        """Returns what differs if a bit of an instruction is inverted, or an empty string. `text` is that of
+        `random_changes`."""
         section, at, bit = re.match(r"(\S+) (0x\w+) .*: bit (\d+) ", text).groups()
         section, at = f".text.{section}", int(at, 16)
         head, lines = self.program.heads[section], list(self.lines)
-        word = int.from_bytes(self.program.object.body(head)[at:at + SIZE], "little") ^ 1 << int(bit)
+        word = int.from_bytes(self.program.object.body(head)[at : at + SIZE], "little") ^ 1 << int(bit)
         number = self.line_at[section, at]
         relocation = self.program.relocations_of(head).get(at)
         if relocation:
@@ -79,7 +87,7 @@ class Changed:
     def listed(self, section, at):
         options = f"--section={section}", f"--start-address={at}", f"--stop-address={at + SIZE}"
         try:
-            (_, _, text), = listing(self.path, *options)[section]
+            ((_, _, text),) = listing(self.path, *options)[section]
             x = self.program.instruction(section, at, text, self.relocations_of(section).get(at))
         except (Unsupported, ValueError):
             return None

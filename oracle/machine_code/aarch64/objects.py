@@ -11,15 +11,15 @@ from .unwinding import Arm
 
 # An instruction: `form` has a word per operand; `target` is (section or constant, offset), or None.
 Instruction = collections.namedtuple("Instruction", "section at end mnemonic form operands target")
-Register = collections.namedtuple("Register", "name width")            # x0 and w0, xzr, sp
-Vector = collections.namedtuple("Vector", "number arrangement lane")   # q0 is (0, "q", None), v0.d[1] is (0, "d", 1)
+Register = collections.namedtuple("Register", "name width")  # x0 and w0, xzr, sp
+Vector = collections.namedtuple("Vector", "number arrangement lane")  # q0 is (0, "q", None), v0.d[1] is (0, "d", 1)
 Immediate = collections.namedtuple("Immediate", "value")
 Shift = collections.namedtuple("Shift", "op amount")
-Place = collections.namedtuple("Place", "base index offset mode")      # mode: offset, before or after
+Place = collections.namedtuple("Place", "base index offset mode")  # mode: offset, before or after
 
-PAGE, LOW_ADD, JUMP, CALL, LOW_64, LOW_128 = 275, 277, 282, 283, 286, 299      # relocation types
+PAGE, LOW_ADD, JUMP, CALL, LOW_64, LOW_128 = 275, 277, 282, 283, 286, 299  # relocation types
 OF_RELOCATION = {PAGE: "adrp", LOW_ADD: "add", JUMP: "b", CALL: "bl", LOW_64: "ldr", LOW_128: "ldr"}
-MULTIPLES = {LOW_64: 8, LOW_128: 16}          # required alignment of the target
+MULTIPLES = {LOW_64: 8, LOW_128: 16}  # required alignment of the target
 SIZE = 4
 LINE = re.compile(r" *([0-9a-f]+):\t([0-9a-f]{8}) +\t(.*)")
 CONDITIONS = "eq", "ne", "cs", "cc", "hi", "ls", "ge", "lt", "gt", "le"
@@ -61,7 +61,7 @@ class Program(Loaded):
         body, relocations = self.object.body(head), self.relocations_of(head)
         self.relocated[section] = set(relocations)
         for address, raw, text in lines:
-            if address != at or body[at:at + SIZE] != raw:
+            if address != at or body[at : at + SIZE] != raw:
                 raise Unsupported(f"{section} {address:#x}: objdump leaves bytes out")
             yield at, self.instruction(section, at, text, relocations.pop(at, None))
             at += SIZE
@@ -110,13 +110,18 @@ def listing(path, *options):
 
 def split(text):
     """Splits the operands at commas outside of brackets."""
-    return [part.strip() for part in re.split(r",(?![^\[]*\])(?![^{]*\})", text)] if "[" not in text else \
-        parts_with_place(text)
+    return (
+        [part.strip() for part in re.split(r",(?![^\[]*\])(?![^{]*\})", text)]
+        if "[" not in text
+        else parts_with_place(text)
+    )
 
 
 def parts_with_place(text):
     """The same for operands with a memory operand and the step after it."""
-    match = re.fullmatch(r"(?:(.*), )?(\[[^\]]*\](?:!|, #-?\w+)?)", text) if not re.search(r"v\d+\.\w\[", text) else None
+    match = (
+        re.fullmatch(r"(?:(.*), )?(\[[^\]]*\](?:!|, #-?\w+)?)", text) if not re.search(r"v\d+\.\w\[", text) else None
+    )
     if match and not (match[1] or "").startswith("{"):
         return [*([part.strip() for part in match[1].split(",")] if match[1] else []), match[2]]
     match = re.fullmatch(r"(\{v\d+\.\w\}\[\d\]), (\[[^\]]*\])", text)

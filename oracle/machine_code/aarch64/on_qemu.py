@@ -11,17 +11,31 @@ from ..values import Address, address
 from .objects import CONDITIONS, Program
 from .table import TABLE, Processor
 
-SETS = 24                              # inputs per test
-REGISTERS = range(3, 8)                # x3 .. x7; x8 is the address
-LANES = range(1, 5)                    # v1 .. v4
-MEMORY, BASE = 96, 24                  # bytes of memory, and x8's offset in it
+SETS = 24  # inputs per test
+REGISTERS = range(3, 8)  # x3 .. x7; x8 is the address
+LANES = range(1, 5)  # v1 .. v4
+MEMORY, BASE = 96, 24  # bytes of memory, and x8's offset in it
 INPUT = 8 * 6 + 16 * 4 + MEMORY
 OUTPUT = 8 * 8 + 16 * 4 + MEMORY
-NZCV = {"eq": lambda n: n >> 30 & 1, "cs": lambda n: n >> 29 & 1, "hi": lambda n: (n >> 29 & 1) & ~(n >> 30) & 1,
-        "ge": lambda n: n >> 31 & 1 == n >> 28 & 1, "gt": lambda n: not n >> 30 & 1 and n >> 31 & 1 == n >> 28 & 1}
+NZCV = {
+    "eq": lambda n: n >> 30 & 1,
+    "cs": lambda n: n >> 29 & 1,
+    "hi": lambda n: (n >> 29 & 1) & ~(n >> 30) & 1,
+    "ge": lambda n: n >> 31 & 1 == n >> 28 & 1,
+    "gt": lambda n: not n >> 30 & 1 and n >> 31 & 1 == n >> 28 & 1,
+}
 NOT = {"eq": "ne", "cs": "cc", "hi": "ls", "ge": "lt", "gt": "le"}
-IMMEDIATES = {"movi": ["0xff00ff0000ffff00"], "shrn": ["32", "7"], "ext": ["8"], "mov": ["0x1234"], "and": ["0xf0", "0xfffffffffffffff0"],
-              "ands": ["0xf0"], "orr": ["0x8", "0xfffffffffffffff0"], "ubfx": ["3, #7"], "shll": ["32"]}
+IMMEDIATES = {
+    "movi": ["0xff00ff0000ffff00"],
+    "shrn": ["32", "7"],
+    "ext": ["8"],
+    "mov": ["0x1234"],
+    "and": ["0xf0", "0xfffffffffffffff0"],
+    "ands": ["0xf0"],
+    "orr": ["0x8", "0xfffffffffffffff0"],
+    "ubfx": ["3, #7"],
+    "shll": ["32"],
+}
 LANES_OF = {"d[]": range(2), "s[]": range(4)}
 PLACES = ["[x8]", "[x8, #16]", "[x8, #16]!", "[x8], #16"]
 UNTRIED = {("adrp", "x"), ("add", "x x"), ("brk", "i"), ("prfm", "p m"), ("b", ""), ("bl", ""), ("ret", "")}
@@ -94,6 +108,7 @@ outputs: .space {outputs}
 
 # ---- tests
 
+
 def immediates(mnemonic, word):
     if mnemonic in IMMEDIATES:
         return IMMEDIATES[mnemonic]
@@ -125,7 +140,9 @@ def texts(mnemonic, form):
     before = "cmp x5, x6; " if "c" in form.split() else ""
     for word in form.split():
         if word == "m":
-            return [f"{mnemonic} {', '.join([*parts[:-1], place])}" for place in places(mnemonic)] + with_index(mnemonic, parts)
+            return [f"{mnemonic} {', '.join([*parts[:-1], place])}" for place in places(mnemonic)] + with_index(
+                mnemonic, parts
+            )
     if mnemonic.startswith(("b.", "cb", "tb")):
         bit = ", #5" if mnemonic.startswith("tb") else ""
         compared = "cmp x5, x6; " if mnemonic.startswith("b.") else ""
@@ -135,10 +152,13 @@ def texts(mnemonic, form):
 
 def filled(mnemonic, form, parts):
     """Returns the lists of operands with all choices of numbers, shifts and conditions."""
-    choices = {"i": [f"#{n}" for n in immediates(mnemonic, None)], "c": CONDITIONS,
-               "lsl": ["lsl #16", "lsl #48"][:1 + (form[0] == "x")] if mnemonic == "movk" else ["lsl #3", "lsl #17"],
-               "lsr": ["lsr #5", "lsr #31"],
-               "ror": ["ror #5", "ror #31"]}
+    choices = {
+        "i": [f"#{n}" for n in immediates(mnemonic, None)],
+        "c": CONDITIONS,
+        "lsl": ["lsl #16", "lsl #48"][: 1 + (form[0] == "x")] if mnemonic == "movk" else ["lsl #3", "lsl #17"],
+        "lsr": ["lsr #5", "lsr #31"],
+        "ror": ["ror #5", "ror #31"],
+    }
     fixed = [part for word, part in zip(form, parts) if word not in choices]
     free = [word for word in form if word in choices]
     if mnemonic == "ubfx":
@@ -166,11 +186,14 @@ def all_tests():
 
 # ---- both runs
 
+
 def inputs(rng):
     """Yields edge cases and random numbers for x3 .. x7, v1 .. v4 and the memory."""
     edges = [0, 1, 2, 63, 64, 1 << 31, (1 << 32) - 1, 1 << 32, 1 << 63, (1 << 64) - 1]
     for _ in range(SETS):
-        numbers = [rng.choice([*edges, rng.getrandbits(64), rng.getrandbits(64), rng.getrandbits(32)]) for _ in range(5)]
+        numbers = [
+            rng.choice([*edges, rng.getrandbits(64), rng.getrandbits(64), rng.getrandbits(32)]) for _ in range(5)
+        ]
         if rng.random() < 0.3:
             numbers[3] = numbers[2]
         lanes = [rng.choice([*edges, *(rng.getrandbits(64) for _ in range(6))]) for _ in range(8)]
@@ -193,15 +216,17 @@ def by_qemu(tests, sets, workdir):
         for numbers, lanes, memory in sets:
             file.write(struct.pack("<14Q", *numbers, 0, *lanes) + memory)
     body = "".join(BEGIN.format(sets=SETS, base=BASE) + lines(text) + END.format(size=INPUT) for _, text in tests)
-    path = assembled(FRAME.format(tests=body, inputs=f"{workdir}/inputs", memory=MEMORY,
-                                  outputs=OUTPUT * SETS * len(tests)), f"{workdir}/program")
+    path = assembled(
+        FRAME.format(tests=body, inputs=f"{workdir}/inputs", memory=MEMORY, outputs=OUTPUT * SETS * len(tests)),
+        f"{workdir}/program",
+    )
     subprocess.run(["aarch64-linux-gnu-ld", "-o", f"{workdir}/program", path], check=True)
     output = subprocess.run(["qemu-aarch64", f"{workdir}/program"], check=True, stdout=subprocess.PIPE).stdout
     if len(output) != OUTPUT * SETS * len(tests):
         raise SystemExit(f"the program told {len(output)} bytes")
     for at in range(0, len(output), OUTPUT):
         values = struct.unpack_from("<16Q", output, at)
-        yield values[:6], values[6], values[8:], output[at + OUTPUT - MEMORY:at + OUTPUT]
+        yield values[:6], values[6], values[8:], output[at + OUTPUT - MEMORY : at + OUTPUT]
 
 
 class Tests(Program):
@@ -240,7 +265,7 @@ def same_flags(cpu, nzcv):
     if cpu.flags is None:
         return True
     names = ["eq", "cs"] if cpu.flags[0] in ("add", "borrow") else list(NZCV)
-    if cpu.flags[2:4] == (0, 1):        # after ccmp, only eq is used
+    if cpu.flags[2:4] == (0, 1):  # after ccmp, only eq is used
         names = ["eq"]
     return all(bool(NZCV[name](nzcv)) == cpu.test(name) and cpu.test(name) != cpu.test(NOT[name]) for name in names)
 
@@ -258,5 +283,7 @@ def report():
             count += 1
     forms = {key for key, _ in tests}
     bad += [f"{key} has no test" for key in TABLE.keys() - forms - UNTRIED]
-    return f"{len(forms)} forms, {len(tests)} tests of {SETS} inputs; {len(UNTRIED)} forms are of control or addresses", bad
-
+    return (
+        f"{len(forms)} forms, {len(tests)} tests of {SETS} inputs; {len(UNTRIED)} forms are of control or addresses",
+        bad,
+    )

@@ -1,6 +1,7 @@
 """Runs a program for 64-bit ARM symbolically, from a function's first instruction to its return, like ../processor.py
 for x86-64. A call leaves the return address in a register."""
 import operator
+from typing import Any
 
 from oracle.symbolic_terms import TESTS, Undecided, Unsupported, is_number, is_same_number, plus, signed
 
@@ -10,9 +11,9 @@ from ..object_contents import OUTER
 from ..processor import Runner
 from ..values import WORD, Address, address, arithmetic, is_term, joined, low, place_of
 
-TABLE = {}                                    # (mnemonic, form) -> function
+TABLE = {}  # (mnemonic, form) -> function
 SIGNED = {"ge": operator.ge, "lt": operator.lt, "gt": operator.gt, "le": operator.le}
-RETURN = "return"                             # return address of the first function
+RETURN = "return"  # return address of the first function
 
 
 class ReturnTo:
@@ -38,13 +39,16 @@ class Page:
 def form(mnemonics, forms):
     """Returns a decorator that adds a function to the table for some mnemonics, each with comma-separated forms. It
     takes the processor, the instruction and the operands."""
+
     def put(function):
         def run(cpu, x):
             return function(cpu, x, *x.operands)
+
         for mnemonic in mnemonics.split():
             for one in map(str.strip, forms.split(",")):
                 TABLE[mnemonic, one] = run
         return function
+
     return put
 
 
@@ -53,13 +57,14 @@ class Processor(Runner):
 
     REGISTERS = [f"x{k}" for k in range(31)]
     ARGUMENTS, SCRATCH = REGISTERS[:8], REGISTERS[:19]
-    CALLEE_SAVED = REGISTERS[19:]                         # callee-saved registers, and the one for the return address
+    CALLEE_SAVED = REGISTERS[19:]  # callee-saved registers, and the one for the return address
     LINK, STACK_POINTER = "x30", "sp"
-    VECTORS, CALLEE_SAVED_LANES = 32, range(8, 16)        # number of vectors, and those whose lower lane is callee-saved
-    TAKES_STRIPES = ARGUMENTS[:6]                 # of a function that takes stripes and returns a record
+    VECTORS, CALLEE_SAVED_LANES = 32, range(8, 16)  # number of vectors, and those whose lower lane is callee-saved
+    TAKES_STRIPES = ARGUMENTS[:6]  # of a function that takes stripes and returns a record
     TOGETHER = 1, 2
-    carry = None                                  # unused: `flags` includes the carry
-    has_moved = False                             # whether an instruction moved the stack pointer
+    flags: Any
+    carry = None  # unused: `flags` includes the carry
+    has_moved = False  # whether an instruction moved the stack pointer
 
     def __init__(self, program):
         super().__init__(program)
@@ -217,10 +222,10 @@ class Processor(Runner):
         if name in SIGNED:
             return SIGNED[name](*self.signed_operands())
         if name in ("eq", "ne"):
-            if op == "sub" and is_term(a) and is_term(b):                   # they are equal if no bit differs
+            if op == "sub" and is_term(a) and is_term(b):  # they are equal if no bit differs
                 op, answer = "xor", arithmetic("xor", width, a, b)
             return (is_equal(self, a, b) if op == "sub" else is_equal(self, answer, 0)) == (name == "eq")
-        if op == "and":                                   # there is no carry
+        if op == "and":  # there is no carry
             return name in ("cc", "ls")
         if op == "add" and name in ("cs", "cc") and is_number(a) and is_number(b):
             return TESTS["ge"](plus(a, b), 1 << width) == (name == "cs")

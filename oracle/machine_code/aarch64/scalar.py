@@ -1,5 +1,6 @@
 """Semantics of instructions on words, control flow and memory."""
-from oracle.symbolic_terms import Unsupported, lifted, ones, plus, rotated
+from oracle.symbolic_terms import Unsupported, lifted, ones, plus
+from oracle.symbolic_terms.signs_and_rotations import rotated
 
 from ..flags import is_equal
 
@@ -8,9 +9,21 @@ from .objects import Register, Shift, Vector
 from .processor import RETURN, Page, ReturnTo, form
 from .vectors import of_quarters, quarters_of
 
-SIZES = {"b": 1, "h": 2}          # suffixes of ldrb, strh and others
-OPERATIONS = {"add": "add", "sub": "sub", "adds": "add", "subs": "sub", "cmp": "sub", "cmn": "add", "mul": "mul", "and": "and",
-              "ands": "and", "orr": "or", "eor": "xor", "udiv": "udiv"}
+SIZES = {"b": 1, "h": 2}  # suffixes of ldrb, strh and others
+OPERATIONS = {
+    "add": "add",
+    "sub": "sub",
+    "adds": "add",
+    "subs": "sub",
+    "cmp": "sub",
+    "cmn": "add",
+    "mul": "mul",
+    "and": "and",
+    "ands": "and",
+    "orr": "or",
+    "eor": "xor",
+    "udiv": "udiv",
+}
 
 
 def value(cpu, x, width):
@@ -43,6 +56,7 @@ def operands(cpu, x):
 
 
 # ---- arithmetic and logic
+
 
 @form("add sub", "x x x, x x i, x x x lsl, x x x lsr, w w w, w w w lsl, w w i")
 @form("eor orr", "x x x, x x x lsl, x x x lsr, x x x ror, w w w, w w w lsl, w w w lsr, w w w ror")
@@ -116,6 +130,7 @@ def turned(cpu, x, to, a):
 
 # ---- moves
 
+
 @form("mov", "x x, w w, x i, w i")
 def move(cpu, x, to, source):
     cpu.put(to, value(cpu, source, to.width))
@@ -124,8 +139,14 @@ def move(cpu, x, to, source):
 @form("movk", "x i lsl, w i lsl")
 def move_part(cpu, x, to, part, where):
     old, first = cpu.get(to), where.amount
-    cpu.put(to, joined((bits(old, 0, first), first), (part.value, 16),
-                       (bits(old, first + 16, to.width - first - 16), to.width - first - 16)))
+    cpu.put(
+        to,
+        joined(
+            (bits(old, 0, first), first),
+            (part.value, 16),
+            (bits(old, first + 16, to.width - first - 16), to.width - first - 16),
+        ),
+    )
 
 
 @form("csel csinc csinv", "x x x c, w w w c")
@@ -145,6 +166,7 @@ def set_by(cpu, x, to, condition):
 
 # ---- memory
 
+
 def width_of(x):
     """Returns the bytes of each loaded or stored register."""
     register = x.operands[0]
@@ -159,8 +181,10 @@ def width_of(x):
 def load(cpu, x, *operands):
     (*registers, where), n = operands, width_of(x)
     memory, at = cpu.place(where, x)
-    found = [load_lanes(memory, at, n, k) if isinstance(r, Vector) else memory.load(moved(at, n * k), n)
-             for k, r in enumerate(registers)]
+    found = [
+        load_lanes(memory, at, n, k) if isinstance(r, Vector) else memory.load(moved(at, n * k), n)
+        for k, r in enumerate(registers)
+    ]
     for register, what in zip(registers, found):
         if isinstance(register, Vector):
             cpu.vectors[register.number] = what
@@ -235,10 +259,11 @@ def nothing(cpu, x, *_):
 @form("prfm", "p m")
 def prefetch(cpu, x, _, place):
     step = cpu.get(place.index) if place.index else place.offset % (1 << WORD)
-    place_of(arithmetic("add", WORD, cpu.registers[place.base.name], step))      # in or near an object, and by no symbol
+    place_of(arithmetic("add", WORD, cpu.registers[place.base.name], step))  # in or near an object, and by no symbol
 
 
 # ---- control
+
 
 @form("b", "")
 def jump(cpu, x):

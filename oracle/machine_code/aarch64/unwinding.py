@@ -27,7 +27,7 @@ class Arm:
             shift = x.operands[3].amount if len(x.operands) > 3 else 0
             return (x.operands[2].value << shift) * (1 if x.mnemonic == "sub" else -1), {}, {}, [], NOTHING
         if x.mnemonic in ("add", "mov") and used[1:] == ["sp"] and used[0] != "sp":
-            used = used[:1]              # only read
+            used = used[:1]  # only read
         if not place or place.base.name != "sp":
             return 0, {}, {}, [] if x.mnemonic in ("cmp", "cmn", "tst") else used, NOTHING
         return cls.access(x, place, used)

@@ -23,7 +23,7 @@ def of_quarters(parts):
 
 def read(cpu, x):
     lanes = cpu.vectors[x.number]
-    return quarters_of(lanes)[:int(x.arrangement[0])] if x.arrangement in ("4s", "2s") else list(lanes)
+    return quarters_of(lanes)[: int(x.arrangement[0])] if x.arrangement in ("4s", "2s") else list(lanes)
 
 
 def write(cpu, x, parts):
@@ -36,12 +36,15 @@ def width_of(x):
 
 # ---- the same on each part
 
+
 def each(mnemonics, forms, function, with_to=False):
     """Adds instructions that compute each part from its width and the sources' parts, or their number. `with_to` makes
     the destination the first source."""
+
     def run(cpu, x, to, *sources):
         parts = [read(cpu, y) if isinstance(y, Vector) else [y.value] * 4 for y in ([to] * with_to + [*sources])]
         write(cpu, to, [function(width_of(to), *found) for found in zip(*parts)])
+
     form(mnemonics, forms)(run)
 
 
@@ -60,24 +63,33 @@ def shift_by(width, x, k):
 
 
 for mnemonic, word, forms in (
-        ("add", "add", "4s 4s 4s, 2d 2d 2d"), ("sub", "sub", "4s 4s 4s, 2d 2d 2d"), ("mul", "mul", "4s 4s 4s, 2s 2s 2s"),
-        ("eor", "xor", "16b 16b 16b"), ("orr", "or", "16b 16b 16b"), ("shl", "shl", "4s 4s i"),
-        ("ushr", "lshr", "2d 2d i, 4s 4s i")):
+    ("add", "add", "4s 4s 4s, 2d 2d 2d"),
+    ("sub", "sub", "4s 4s 4s, 2d 2d 2d"),
+    ("mul", "mul", "4s 4s 4s, 2s 2s 2s"),
+    ("eor", "xor", "16b 16b 16b"),
+    ("orr", "or", "16b 16b 16b"),
+    ("shl", "shl", "4s 4s i"),
+    ("ushr", "lshr", "2d 2d i, 4s 4s i"),
+):
     each(mnemonic, forms, functools.partial(arithmetic, word))
 each("neg", "2d 2d", lambda width, p: arithmetic("sub", width, 0, p))
 each("mla", "4s 4s 4s", add_product, with_to=True)
 each("umlal", "2d 2s 2s", add_product, with_to=True)
 each("xtn", "2s 2d", lambda width, p: low(p, width))
 each("shrn", "2s 2d i", lambda width, p, k: low(arithmetic("lshr", WORD, p, k), width))
-each("shll", "2d 2s i", lambda width, p, k: joined((0, HALF), (p, HALF)))      # by a word's width, the only amount
-each("usra", "4s 4s i", lambda width, r, p, k: arithmetic("add", width, r, arithmetic("lshr", width, p, k)), with_to=True)
+each("shll", "2d 2s i", lambda width, p, k: joined((0, HALF), (p, HALF)))  # by a word's width, the only amount
+each(
+    "usra", "4s 4s i", lambda width, r, p, k: arithmetic("add", width, r, arithmetic("lshr", width, p, k)), with_to=True
+)
 each("ushl", "2d 2d 2d, 4s 4s 4s", shift_by)
 
 
 # ---- moves
 
+
 def moved(mnemonic, forms, function):
     """Adds an instruction that computes its parts from the lists of the sources' parts."""
+
     @form(mnemonic, forms)
     def run(cpu, x, to, *sources):
         write(cpu, to, function(*(read(cpu, y) for y in sources)))

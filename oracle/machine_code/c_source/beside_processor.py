@@ -8,10 +8,23 @@ from .objects import COPY, copy_of
 FEWEST = 240
 # Instructions on the stack, and copies of words in the test's buffer, by several instructions.
 MEMORY = f"{on_processor.MEMORY:#x}(%rdi)"
-SNIPPETS = [["push %rbp", "mov %rsp,%rbp", "push %rax", "leave", "not %rcx"],
-            ["push %rax", "push (%rsp)", "pop %rbx", "pop %rcx"], ["sbb %eax,%eax"], ["sbb %rbx,%rbx"],
-            *([f"mov {MEMORY},%rax", f"lea {MEMORY},%rsi", f"lea {distance:#x}(%rsi),%rdi", "mov $5,%ecx", "rep movsq",
-               "mov %rax,%rsi"] for distance in (8, 16, 40, 64))]
+SNIPPETS = [
+    ["push %rbp", "mov %rsp,%rbp", "push %rax", "leave", "not %rcx"],
+    ["push %rax", "push (%rsp)", "pop %rbx", "pop %rcx"],
+    ["sbb %eax,%eax"],
+    ["sbb %rbx,%rbx"],
+    *(
+        [
+            f"mov {MEMORY},%rax",
+            f"lea {MEMORY},%rsi",
+            f"lea {distance:#x}(%rsi),%rdi",
+            "mov $5,%ecx",
+            "rep movsq",
+            "mov %rax,%rsi",
+        ]
+        for distance in (8, 16, 40, 64)
+    ),
+]
 TESTED_ELSEWHERE = "leave", COPY, "sbb"
 
 

@@ -34,5 +34,8 @@ class Compiler(collections.namedtuple("Compiler", "name command processor_name")
 
 
 def compilers():
-    return [Compiler(f"{command} {name}", (command, "-O2", f"-march={name}"), name)
-            for command in ("gcc", "clang") for name in (V2, V3)]
+    return [
+        Compiler(f"{command} {name}", (command, "-O2", f"-march={name}"), name)
+        for command in ("gcc", "clang")
+        for name in (V2, V3)
+    ]

@@ -176,7 +176,7 @@ def lanes_in(lanes, width):
 
 def of_quarters(parts):
     """Joins words of 16 bits into lanes."""
-    return [joined(*((word, 16) for word in parts[k:k + 4])) for k in range(0, len(parts), 4)]
+    return [joined(*((word, 16) for word in parts[k : k + 4])) for k in range(0, len(parts), 4)]
 
 
 @form(V2, "pblendw", "ixx")

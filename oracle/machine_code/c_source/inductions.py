@@ -2,6 +2,7 @@
 and XXH64 with any updates."""
 import collections
 import functools
+from typing import Any
 
 from oracle.symbolic_terms import at_most, is_same_number, minus, plus, times, variable
 from oracle.symbolic_terms.polynomials import as_word, is_natural
@@ -10,15 +11,16 @@ from .. import any_updates, every_length
 from ..every_length import DERIVED, TURNS, Case, xxh3_case
 from .objects import OF_STATE, at_each_residue
 
-LEAST = 2                         # turns of a case of XXH32 and XXH64: shorter lengths are compared one by one
+LEAST = 2  # turns of a case of XXH32 and XXH64: shorter lengths are compared one by one
 OWN_SECRET = "secret", "both"
 # Offsets in a state: of the total with its size, of the accumulators, of the buffer, and of the buffered bytes' number.
 Layout = collections.namedtuple("Layout", "total size accumulators buffer buffered")
-LAYOUTS = {"32": Layout(0, 4, 8, 24, 40), "64": Layout(0, 8, 8, 40, 72)}
-IS_LARGE = 4                      # offset of a word of XXH32's states: 1 if there was a stripe
+BY_HASH = {"32": Layout(0, 4, 8, 24, 40), "64": Layout(0, 8, 8, 40, 72)}
+IS_LARGE = 4  # offset of a word of XXH32's states: 1 if there was a stripe
 
 
 # ---- one-shots
+
 
 def plain_cases(hash_name):
     """Yields the cases of XXH32 or XXH64: any number of stripes, and a rest."""
@@ -55,7 +57,9 @@ def shortest(algorithm):
 
 def left_out(algorithm):
     """Returns the lengths that no case contains, one of each gap."""
-    return every_length.left_out(cases(algorithm), shortest(algorithm), 64 * DERIVED if ":" in algorithm else int(algorithm) // 2)
+    return every_length.left_out(
+        cases(algorithm), shortest(algorithm), 64 * DERIVED if ":" in algorithm else int(algorithm) // 2
+    )
 
 
 class EveryLength(every_length.EveryLength):
@@ -67,11 +71,12 @@ class EveryLength(every_length.EveryLength):
 
 # ---- streams of XXH32 and XXH64
 
+
 class Updates(any_updates.AnyUpdates):
     """Proves the three steps for states with the layout of the header. An update takes the stripe in the buffer or
     not, and any number of others."""
 
-    LAYOUTS = LAYOUTS
+    LAYOUTS: Any = BY_HASH
 
     def parts(self, a, r, accumulators):
         at, word, n = self.at, self.width // 8, plus(times(self.stripe, a), r)
@@ -119,6 +124,9 @@ def updates(hash_name):
 def updates_left_out(hash_name):
     """Returns the chunks (r, length) that no update covers, for lengths up to three stripes."""
     stripe = int(hash_name) // 2
-    found = {(one.r, stripe * (int(one.fills) + turns * one.more) + one.s - one.r) for one in updates(hash_name)
-             for turns in range(1, 4)}
+    found = {
+        (one.r, stripe * (int(one.fills) + turns * one.more) + one.s - one.r)
+        for one in updates(hash_name)
+        for turns in range(1, 4)
+    }
     return sorted({(r, length) for r in range(stripe) for length in range(3 * stripe)} - found)

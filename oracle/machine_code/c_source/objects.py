@@ -16,12 +16,12 @@ from ..streams import OK, ForC, expect_answer
 from ..values import address
 from . import forms
 
-TABLES = forms,                   # imported because it fills the table of instructions
-MODULUS = 64                      # bytes by which residues count
-OF_STACK = 16                     # the stack is a multiple at a call
-OF_STATE = {"32": 4, "64": 8, "3": 64}        # so is a state, by the header's types
-COPY = "rep-movsq"                # name of an instruction with a prefix
-PROVED = "proved_"                # part of names of the assembly library that the source's names lack
+TABLES = (forms,)  # imported because it fills the table of instructions
+MODULUS = 64  # bytes by which residues count
+OF_STACK = 16  # the stack is a multiple at a call
+OF_STATE = {"32": 4, "64": 8, "3": 64}  # so is a state, by the header's types
+COPY = "rep-movsq"  # name of an instruction with a prefix
+PROVED = "proved_"  # part of names of the assembly library that the source's names lack
 
 
 def copy_of(section, at, end, text):
@@ -54,6 +54,7 @@ class CProgram(RustProgram):
 
 class ForHeader(ForC):
     """Calls the functions of the source by their names in the header."""
+
     SIZES = {"32": 48, "64": 88, "3": 576}
 
     @staticmethod
@@ -127,8 +128,8 @@ def at_each_residue(cpu, ask, least=MODULUS):
     try:
         for pair in fewer:
             with contextlib.suppress(*REFUSALS):
-                return for_all(cpu, ask, *pair, least)
-        return for_all(cpu, ask, *last, least)
+                return for_all(cpu, ask, pair[0], pair[1], least)
+        return for_all(cpu, ask, last[0], last[1], least)
     finally:
         cpu.of_stack, cpu.of_state = CProcessor.of_stack, CProcessor.of_state
 

@@ -4,8 +4,20 @@ import contextlib
 import functools
 import itertools
 
-from oracle.symbolic_terms import (LONGEST_SECRET, REFUSALS, Input, NotShown, Request, at_most, definition, given, is_same,
-                                   plus, symbol, variable)
+from oracle.symbolic_terms import (
+    LONGEST_SECRET,
+    REFUSALS,
+    Input,
+    NotShown,
+    Request,
+    at_most,
+    definition,
+    given,
+    is_same,
+    plus,
+    symbol,
+    variable,
+)
 
 from .. import calls
 from ..memory import WordMemory
@@ -15,7 +27,7 @@ from ..values import Address, address, low
 from .objects import MODULUS, OF_STACK, OF_STATE, at_each_residue
 
 ALGORITHMS = {"XXH32": "32", "XXH64": "64", "XXH3": "3-64"}
-SHORTEST = 136                    # bytes of a secret
+SHORTEST = 136  # bytes of a secret
 LIMIT = (1 << 64) - 1
 
 
@@ -51,6 +63,7 @@ def copies(cpu, algorithm):
         cpu.call(f"{algorithm}_copyState", address(other), address(original))
         expect_same("a copy", before, original)
         expect_same("a copy of another value", before, other)
+
     return len(at_each_residue(cpu, ask, OF_STATE[hash_name.split("-")[0]]))
 
 
@@ -76,9 +89,11 @@ def refused_secrets(cpu):
     size, length = variable("size"), variable("length")
     buffer, source = WordMemory("secret", SHORTEST, [], alignment=1), address(Input("m", length))
     place, large = address(buffer), plus(size, SHORTEST)
-    cases = [(place, size, source, length, at_most(size, SHORTEST - 1)),
-             (0, size, source, length, at_most(size, LIMIT)),
-             (place, large, 0, plus(length, 1), at_most(plus(large, length), LIMIT - 1))]
+    cases = [
+        (place, size, source, length, at_most(size, SHORTEST - 1)),
+        (0, size, source, length, at_most(size, LIMIT)),
+        (place, large, 0, plus(length, 1), at_most(plus(large, length), LIMIT - 1)),
+    ]
     for *arguments, fact in cases:
         with given(fact, at_most(length, LIMIT)):
             expect_answer(cpu.call("XXH3_generateSecret", *arguments), ERROR)
@@ -99,6 +114,7 @@ def updates_of_nothing(cpu, hash_name):
             cpu.library.update(cpu, hash_name, state, piece)
         ours, theirs = cpu.library.digest(cpu, hash_name, state), request.of_definition(entries)
         calls.expect(f"{request} beside null pieces", ours, theirs)
+
     for n in lengths:
         at_each_residue(cpu, functools.partial(ask, Request(hash_name, variant, n)), OF_STATE[hash_name.split("-")[0]])
     return len(lengths)
@@ -109,8 +125,10 @@ def another_name(cpu, lengths):
     seed = symbol("seed64", 64)
     for n, own in itertools.product(lengths, (seed, 0)):
         source, cpu.not_zero = Input("m", n), [seed]
-        one, other = (at_each_residue(cpu, functools.partial(cpu.call, name, address(source), n, own))[0]
-                      for name in ("XXH128", "XXH3_128bits_withSeed"))
+        one, other = (
+            at_each_residue(cpu, functools.partial(cpu.call, name, address(source), n, own))[0]
+            for name in ("XXH128", "XXH3_128bits_withSeed")
+        )
         if not all(map(is_same, one, other)):
             raise NotShown(f"XXH128 of {n} bytes: another value")
     return 2 * len(lengths)
@@ -129,9 +147,11 @@ def generated_secrets(cpu, asked):
 
 # ---- memory
 
+
 def created_states(cpu, algorithm):
     """Tests a state in a block at each residue that malloc returns, and null if it does. The state has the content of
     one that was reset, and is freed as the block; a release of null does nothing."""
+
     def ask():
         cpu.blocks, cpu.freed = [], []
         rax, _ = cpu.call(f"{algorithm}_createState")
@@ -139,6 +159,7 @@ def created_states(cpu, algorithm):
         expect_answer(cpu.call(f"{algorithm}_freeState", rax), OK)
         if len(cpu.freed) != 1 or cpu.freed[0].place() != (cpu.blocks[0], 0):
             raise NotShown(f"{algorithm}_freeState releases {cpu.freed}")
+
     found = at_each_residue(cpu, ask, OF_STACK)
     cpu.is_full, cpu.freed = True, []
     rax, _ = cpu.call(f"{algorithm}_createState")

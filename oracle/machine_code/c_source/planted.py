@@ -14,12 +14,15 @@ Fault = collections.namedtuple("Fault", "function old new ask")
 
 # ---- what detects a fault: each function raises, or returns messages
 
+
 def value(hash_name, variant, length, secret=None, cuts=None):
     """Returns the comparison of a one-shot, or of a stream that is cut."""
+
     def ask(cpu):
         side = OfText(one_shots if cuts is None else streams)
         request = Request(hash_name, variant, length, secret, cuts=cuts)
         return comparison.compare({"C": functools.partial(side.of_text, cpu)}, [request])[1]
+
     return ask
 
 
@@ -30,9 +33,11 @@ def any_length(algorithm, number=-1):
 
 def update(hash_name, r, s, more):
     """Returns the proof of an update from r bytes in the buffer to s."""
+
     def ask(cpu):
         one = next(one for one in inductions.updates(hash_name) if one[:2] == (r, s) and one.more == more)
         return inductions.Updates(cpu, hash_name).show(one) or []
+
     return ask
 
 
@@ -52,25 +57,36 @@ FAULTS = [
     Fault("##bits_withSecretandSeed(", "length <= 240", "length < 240", value("3-64", "both", 240, 136)),
     # Loops over stripes and blocks.
     Fault("xxh3_accumulate_all", "(length - 1) / 64", "length / 64", any_length("3-64:default")),
-    Fault("xxh3_accumulate_all", "stripes_per_block * block,", "stripes_per_block * (uint32_t)block,",
-          any_length("3-128:seed")),
+    Fault(
+        "xxh3_accumulate_all",
+        "stripes_per_block * block,",
+        "stripes_per_block * (uint32_t)block,",
+        any_length("3-128:seed"),
+    ),
     Fault("xxh3_accumulate_all", "block < blocks", "block + 1 < blocks", value("3-64", "secret", 1025, 192)),
     Fault("_long_seed(const", "if (!seed)", "if (seed)", value("3-64", "seed", 300)),
     # Streams.
     Fault("XXH_errorcode XXH32_update", "length >= 16", "length > 16", update("32", 5, 0, False)),
     Fault("xxh64_update_stripes", "bytes += missing;", "bytes += missing - 1;", update("64", 3, 7, True)),
-    Fault("XXH_errorcode xxh3_update", "length > sizeof", "length >= sizeof",
-          value("3-64", "default", 256, cuts=[100])),
+    Fault(
+        "XXH_errorcode xxh3_update", "length > sizeof", "length >= sizeof", value("3-64", "default", 256, cuts=[100])
+    ),
     Fault("xxh3_accumulate_blocks", "count < left", "count <= left", value("3-128", "default", 1088, cuts=[])),
     Fault("xxh3_accumulate_last", "secret_limit - 7", "secret_limit - 8", value("3-64", "default", 300, cuts=[])),
-    Fault("XXH3_128bits_digest", "if (state->uses_seed)", "if (!state->uses_seed)",
-          value("3-128", "seed", 100, cuts=[])),
+    Fault(
+        "XXH3_128bits_digest", "if (state->uses_seed)", "if (!state->uses_seed)", value("3-128", "seed", 100, cuts=[])
+    ),
     # Other calls.
     Fault("XXH_errorcode xxh3_reset_with_secret", "!secret || ", "", call(other_calls.refused_resets)),
-    Fault("XXH3_generateSecret(", "secret_length - 16, hash", "secret_length - 17, hash",
-          call(other_calls.generated_secrets, [(200, 17)])),
-    Fault("*XXH3_createState(", "(uintptr_t)block % 64", "(uintptr_t)block % 32",
-          call(other_calls.created_states, "XXH3")),
+    Fault(
+        "XXH3_generateSecret(",
+        "secret_length - 16, hash",
+        "secret_length - 17, hash",
+        call(other_calls.generated_secrets, [(200, 17)]),
+    ),
+    Fault(
+        "*XXH3_createState(", "(uintptr_t)block % 64", "(uintptr_t)block % 32", call(other_calls.created_states, "XXH3")
+    ),
     Fault("XXH128_cmp(", "a->low64 < b->low64 ? -1 : 1", "-1", call(other_calls.order_of_hashes)),
 ]
 

@@ -2,7 +2,7 @@
 definition."""
 import functools
 
-from oracle.symbolic_terms import Request, comparison, cuts
+from oracle.symbolic_terms import Request, comparison, cuts, processes
 from oracle.symbolic_terms.comparison import title_of
 
 from .. import calls, one_shots, streams
@@ -10,7 +10,7 @@ from ..tasks import compared, count_shown, counted
 from . import beside_processor, inductions, other_calls, planted
 from .objects import CProcessor, OfText, at_each_residue
 
-FUNCTIONS = 49                    # of the header
+FUNCTIONS = 49  # of the header
 SECRETS = 136, 192
 ONE_BY_ONE = range(301)
 # Without --all: lengths of one-shots, and with a secret; lengths of streams, and the step between these.
@@ -22,18 +22,24 @@ SOME_ALGORITHMS = ["32", "64", "3-64:default", "3-128:seed", "3-64:both"]
 # Without --all: steps between the cases of inductions and the planted faults.
 SOME_CASES, SOME_UPDATES = {"32": 4, "64": 8, "default": 15, "seed": 15, "both": 30}, {"32": 67, "64": 499}
 SOME_ENDS, SOME_FAULTS = 8, 3
-PARTS = 4                         # tasks into which the updates are split, with --all
+PARTS = 4  # tasks into which the updates are split, with --all
 # Bytes of generated secrets, and of their custom seeds; without --all every 31st pair.
 SIZES, LENGTHS, SOME_PAIRS = [*range(136, 161), 192, 199, 241, 256, 300], [0, 1, 16, 17, 136, 240, 241, 300, 1100], 31
 # Functions that no task verifies, by the beginning of the compiler's name.
-NOT_VERIFIED = {"clang": {"XXH3_createState": "the difference of two halves of addresses",
-                          "XXH3_freeState": "no state of XXH3_createState"}}
-OF_SECRETS = "gcc"                # compilers whose loops with a secret are proved
-OF_MALLOC = "states of XXH3 of malloc"          # the check of these functions
-LEFT_OUT = ("streams of XXH3 above 300 bytes, and in other chunks than those of symbolic_terms/cuts.py",
-            "XXH3 with a secret of other lengths than 136 and 192 bytes, and above 300 bytes than 192 to 199 by gcc",
-            "XXH3_generateSecret of other sizes and from other lengths than those in machine_code/c_source/tasks.py",
-            "code by other compilers and with other flags, and functions inlined into a caller")
+NOT_VERIFIED = {
+    "clang": {
+        "XXH3_createState": "the difference of two halves of addresses",
+        "XXH3_freeState": "no state of XXH3_createState",
+    }
+}
+OF_SECRETS = "gcc"  # compilers whose loops with a secret are proved
+OF_MALLOC = "states of XXH3 of malloc"  # the check of these functions
+LEFT_OUT = (
+    "streams of XXH3 above 300 bytes, and in other chunks than those of symbolic_terms/cuts.py",
+    "XXH3 with a secret of other lengths than 136 and 192 bytes, and above 300 bytes than 192 to 199 by gcc",
+    "XXH3_generateSecret of other sizes and from other lengths than those in machine_code/c_source/tasks.py",
+    "code by other compilers and with other flags, and functions inlined into a caller",
+)
 
 
 def left_out(name):
@@ -52,14 +58,24 @@ def choose(given, compilers):
     """Returns the tasks, and compiles the source."""
     programs = {compiler.name: compiler.program() for compiler in compilers}
     processors = {name: functools.partial(CProcessor, program) for name, program in programs.items()}
-    out = [all_called_task(programs, processors), *value_tasks(processors, given.all), *length_tasks(processors, given.all),
-           *update_tasks(processors, given.all), *call_tasks(processors, given.all), *fault_tasks(compilers, given.all),
-           counted("forms of instructions beside the processor", beside_processor.FEWEST,
-                   functools.partial(beside_processor.compare, [*programs.values()]))]
-    return [task for task in out if given.only in task.title]
+    out = [
+        all_called_task(programs, processors),
+        *value_tasks(processors, given.all),
+        *length_tasks(processors, given.all),
+        *update_tasks(processors, given.all),
+        *call_tasks(processors, given.all),
+        *fault_tasks(compilers, given.all),
+        counted(
+            "forms of instructions beside the processor",
+            beside_processor.FEWEST,
+            functools.partial(beside_processor.compare, [*programs.values()]),
+        ),
+    ]
+    return processes.chosen(out, given)
 
 
 # ---- one by one
+
 
 def value_tasks(processors, is_all):
     """Yields the tasks of one-shots and of streams, one by one."""
@@ -75,20 +91,25 @@ def value_tasks(processors, is_all):
 def at_once(algorithm):
     """Yields the streams of each length by one update."""
     for n in ONE_BY_ONE:
-        request = Request(*algorithm[:2], n, algorithm[2], cuts=[])
+        request = Request(algorithm[0], algorithm[1], n, algorithm[2], cuts=[])
         yield from [request, *request.with_seed_0()]
 
 
 # ---- every length, and any updates
 
+
 def length_tasks(processors, is_all):
-    yield counted("every length has its case", len(ALGORITHMS), lambda: report_left_out(ALGORITHMS, inductions.left_out))
+    yield counted(
+        "every length has its case", len(ALGORITHMS), lambda: report_left_out(ALGORITHMS, inductions.left_out)
+    )
     for algorithm in ALGORITHMS if is_all else SOME_ALGORITHMS:
         step = 1 if is_all else SOME_CASES[algorithm.rpartition(":")[2]]
         asked, first = inductions.cases(algorithm)[::step], inductions.shortest(algorithm)
         is_own = algorithm.endswith(inductions.OWN_SECRET)
         secret = " of 192 to 199 bytes" if is_own else ""
-        for name, make in ((name, make) for name, make in processors.items() if not is_own or name.startswith(OF_SECRETS)):
+        for name, make in (
+            (name, make) for name, make in processors.items() if not is_own or name.startswith(OF_SECRETS)
+        ):
             title = f"{name}: XXH{algorithm.replace(':', ', ')}{secret}: every length from {first} to 2^64 - 1"
             yield counted(title, len(asked), functools.partial(of_lengths, make, algorithm, asked))
 
@@ -99,16 +120,19 @@ def of_lengths(make, algorithm, asked):
 
 
 def update_tasks(processors, is_all):
-    names = list(inductions.LAYOUTS)
+    names = list(inductions.BY_HASH)
     yield counted("each update has its case", len(names), lambda: report_left_out(names, inductions.updates_left_out))
     for hash_name in names:
         step, asked = 1 if is_all else SOME_ENDS, inductions.updates(hash_name)
-        parts = [asked[part::PARTS] for part in range(PARTS)] if is_all else [asked[::SOME_UPDATES[hash_name]]]
+        parts = [asked[part::PARTS] for part in range(PARTS)] if is_all else [asked[:: SOME_UPDATES[hash_name]]]
         for name, make in processors.items():
             for k, part in enumerate(parts):
                 title = f"{name}: streams of XXH{hash_name}: any updates, to 2^64 - 1 bytes"
-                yield counted(f"{title}, part {k + 1} of {len(parts)}", len(part), functools.partial(
-                    of_updates, make, hash_name, part, step if part is parts[0] else None))
+                yield counted(
+                    f"{title}, part {k + 1} of {len(parts)}",
+                    len(part),
+                    functools.partial(of_updates, make, hash_name, part, step if part is parts[0] else None),
+                )
 
 
 def of_updates(make, hash_name, asked, step):
@@ -124,6 +148,7 @@ def report_left_out(algorithms, find):
 
 
 # ---- the other functions
+
 
 def other_checks(name="", is_all=False):
     """Yields the checks of the functions that are no one-shot and no stream, of one compiler's object or of all: title,
@@ -182,11 +207,13 @@ def all_called(programs, processors):
 
 # ---- planted faults
 
+
 def fault_tasks(compilers, is_all):
     """Yields the tasks of planted faults: all of them in each object, or some in one."""
     for compiler in compilers if is_all else compilers[:1]:
         unknown = left_out(compiler.name)
         known = [fault for fault in planted.FAULTS if not any(name in fault.function for name in unknown)]
-        some = known[::1 if is_all else SOME_FAULTS]
-        yield counted(f"{compiler.name}: planted faults", len(some),
-                      functools.partial(planted.unnoticed, compiler, some))
+        some = known[:: 1 if is_all else SOME_FAULTS]
+        yield counted(
+            f"{compiler.name}: planted faults", len(some), functools.partial(planted.unnoticed, compiler, some)
+        )

@@ -3,8 +3,23 @@
 The features of each level are those of the x86-64 psABI, with their bits from Intel's and AMD's manuals."""
 import functools
 
-from oracle.symbolic_terms import (LONGEST_SECRET, Input, NotShown, Piece, Request, at_most, definition, given, is_same,
-                                   is_same_number, minus, plus, seed_symbol, symbol, variable)
+from oracle.symbolic_terms import (
+    LONGEST_SECRET,
+    Input,
+    NotShown,
+    Piece,
+    Request,
+    at_most,
+    definition,
+    given,
+    is_same,
+    is_same_number,
+    minus,
+    plus,
+    seed_symbol,
+    symbol,
+    variable,
+)
 
 from .. import layouts
 from ..cargo import LONGEST_WITHOUT, SHORTEST
@@ -15,21 +30,38 @@ from .objects import UNKNOWN
 from .uses import started
 
 EAX, EBX, ECX, EDX = range(4)
-FIRST, SEVENTH, EXTENDED = 1, 7, 0x8000_0001                # leaves of `cpuid`
-BASIC, HIGHEST = 0, 0x8000_0000                             # leaves with the maximum leaves
-SAVED = "saved"                                             # the register with the state that the system saves
+FIRST, SEVENTH, EXTENDED = 1, 7, 0x8000_0001  # leaves of `cpuid`
+BASIC, HIGHEST = 0, 0x8000_0000  # leaves with the maximum leaves
+SAVED = "saved"  # the register with the state that the system saves
 # (leaf, register, bit) of each feature
-OF_V3 = {"FMA": (FIRST, ECX, 12), "MOVBE": (FIRST, ECX, 22), "OSXSAVE": (FIRST, ECX, 27), "AVX": (FIRST, ECX, 28),
-         "F16C": (FIRST, ECX, 29), "BMI1": (SEVENTH, EBX, 3), "AVX2": (SEVENTH, EBX, 5), "BMI2": (SEVENTH, EBX, 8),
-         "LZCNT": (EXTENDED, ECX, 5), "saved XMM": (SAVED, EAX, 1), "saved YMM": (SAVED, EAX, 2)}
-OF_V4 = {"AVX512F": (SEVENTH, EBX, 16), "AVX512DQ": (SEVENTH, EBX, 17), "AVX512CD": (SEVENTH, EBX, 28),
-         "AVX512BW": (SEVENTH, EBX, 30), "AVX512VL": (SEVENTH, EBX, 31), "saved masks": (SAVED, EAX, 5),
-         "saved upper halves": (SAVED, EAX, 6), "saved upper registers": (SAVED, EAX, 7)}
-NUMBERS = {"x86-64": 0, "x86-64-v3": 1, "x86-64-v4": 2}     # of the variants of `Level`
+OF_V3 = {
+    "FMA": (FIRST, ECX, 12),
+    "MOVBE": (FIRST, ECX, 22),
+    "OSXSAVE": (FIRST, ECX, 27),
+    "AVX": (FIRST, ECX, 28),
+    "F16C": (FIRST, ECX, 29),
+    "BMI1": (SEVENTH, EBX, 3),
+    "AVX2": (SEVENTH, EBX, 5),
+    "BMI2": (SEVENTH, EBX, 8),
+    "LZCNT": (EXTENDED, ECX, 5),
+    "saved XMM": (SAVED, EAX, 1),
+    "saved YMM": (SAVED, EAX, 2),
+}
+OF_V4 = {
+    "AVX512F": (SEVENTH, EBX, 16),
+    "AVX512DQ": (SEVENTH, EBX, 17),
+    "AVX512CD": (SEVENTH, EBX, 28),
+    "AVX512BW": (SEVENTH, EBX, 30),
+    "AVX512VL": (SEVENTH, EBX, 31),
+    "saved masks": (SAVED, EAX, 5),
+    "saved upper halves": (SAVED, EAX, 6),
+    "saved upper registers": (SAVED, EAX, 7),
+}
+NUMBERS = {"x86-64": 0, "x86-64-v3": 1, "x86-64-v4": 2}  # of the variants of `Level`
 LONGEST_SLICE = (1 << 63) - 1
-FILLED = 200                      # buffered bytes of a stream
-CAPACITY = layouts.CORE.capacity - FILLED              # and bytes that still fit
-SWITCH = 2048                     # bytes of a chunk from which on the code for x86-64-v4 is called
+FILLED = 200  # buffered bytes of a stream
+CAPACITY = layouts.CORE.capacity - FILLED  # and bytes that still fit
+SWITCH = 2048  # bytes of a chunk from which on the code for x86-64-v4 is called
 
 
 class Features:
@@ -79,7 +111,7 @@ def choice(cpu):
 def expect_level(cpu, features, expected):
     cpu.constants[cpu.program.level].store(0, 1, UNKNOWN)
     cpu.features = features
-    for _ in range(2):            # the second call reads the level that the first one stored
+    for _ in range(2):  # the second call reads the level that the first one stored
         found = cpu.call("processor_level")[0]
         if not is_same_number(found, NUMBERS[expected]):
             missing = [name for name, place in {**OF_V3, **OF_V4}.items() if place not in features.bits]
@@ -88,6 +120,7 @@ def expect_level(cpu, features, expected):
 
 
 # ---- long inputs by the assembly source
+
 
 class Called:
     """Replaces the exports `.._long` of all instruction sets: expects the message, and the secret that the definition
@@ -101,7 +134,7 @@ class Called:
                 cpu.replaced[place] = functools.partial(self.run, place)
 
     def run(self, _):
-        at, n, secret, size, *to = (self.cpu.registers[name] for name in self.cpu.ARGUMENTS[:4 + self.width // 128])
+        at, n, secret, size, *to = (self.cpu.registers[name] for name in self.cpu.ARGUMENTS[: 4 + self.width // 128])
         source, first = place_of(at)
         if source is not self.message or not is_same_number(first, 0) or not is_same_number(n, self.length):
             raise NotShown(f"a call with {n} bytes at {at}")
@@ -155,6 +188,7 @@ def long_inputs(cpu):
 
 # ---- chunks by the assembly source
 
+
 def long_chunks(cpu):
     """Tests that a chunk that the buffer of a stream has no room for, of any length, is one call of the assembly
     source: with the stream's core, its secret, and the chunk."""
@@ -200,16 +234,22 @@ def expect_chunk(calls, state, chunk, request):
     """Checks the calls that `record` noted: one, with the right arguments."""
     if len(calls) != 1:
         raise NotShown(f"{request}: {len(calls)} calls")
-    ((memory, at), secret, size, (source, first), length), = calls
-    if memory is not state or not isinstance(at, int) or source is not chunk or not is_same_number(first, 0) \
-            or not is_same_number(length, chunk.length):
+    (((memory, at), secret, size, (source, first), length),) = calls
+    if (
+        memory is not state
+        or not isinstance(at, int)
+        or source is not chunk
+        or not is_same_number(first, 0)
+        or not is_same_number(length, chunk.length)
+    ):
         raise NotShown(f"{request}: a call with {length} bytes at {first} of {source.name}")
     if request.secret:
         is_right = place_of(secret) == (request.secret, 0) or is_copy(place_of(secret), request.secret)
     else:
         derived = definition.program().run()["derived_secret"](request.seed())
-        is_right = size == len(secret) == 192 and all(is_same(x, derived[k]) or is_same_number(x, derived[k])
-                                                      for k, x in enumerate(secret))
+        is_right = size == len(secret) == 192 and all(
+            is_same(x, derived[k]) or is_same_number(x, derived[k]) for k, x in enumerate(secret)
+        )
     if not is_right or request.secret and size != request.secret.length:
         raise NotShown(f"{request}: another secret of {size} bytes")
 

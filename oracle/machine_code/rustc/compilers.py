@@ -13,10 +13,28 @@ from . import arm, objects
 
 CRATE = os.path.join(TOP, "rust")
 PROGRAM = os.path.join(os.path.dirname(os.path.abspath(__file__)), "exports.rs.in")
-FEATURES = "xxhash32", "xxhash64", "xxhash3_64", "xxhash3_128", "std", "alloc"      # the default ones except `random`
-FLAGS = ("--edition", "2021", "--crate-type", "lib", "--emit", "obj", "-C", "opt-level=3", "-C", "panic=abort", "-C",
-         "codegen-units=1", "-C", "force-unwind-tables=no", "--cap-lints", "allow", "--crate-name", "twox_hash",
-         *(word for name in FEATURES for word in ("--cfg", f'feature="{name}"')))
+FEATURES = "xxhash32", "xxhash64", "xxhash3_64", "xxhash3_128", "std", "alloc"  # the default ones except `random`
+FLAGS = (
+    "--edition",
+    "2021",
+    "--crate-type",
+    "lib",
+    "--emit",
+    "obj",
+    "-C",
+    "opt-level=3",
+    "-C",
+    "panic=abort",
+    "-C",
+    "codegen-units=1",
+    "-C",
+    "force-unwind-tables=no",
+    "--cap-lints",
+    "allow",
+    "--crate-name",
+    "twox_hash",
+    *(word for name in FEATURES for word in ("--cfg", f'feature="{name}"')),
+)
 SOURCE = "--cfg", "twox_hash_no_assembly"
 # Miri's build has no vectors: its kernel is the one of targets without SSE2 and NEON.
 SCALAR = ("--cfg", "miri", "-A", "explicit_builtin_cfgs_in_flags", "-C", "no-vectorize-loops", "-C", "no-vectorize-slp")
@@ -37,8 +55,8 @@ class Compiler(collections.namedtuple("Compiler", "name command program processo
             root, built = os.path.join(workdir, "src", "lib.rs"), os.path.join(workdir, "made.o")
             with open(root, "a", encoding="utf-8") as file:
                 file.write("\nmod program;\n")
-            for file, old, new in edits:
-                edit(os.path.join(workdir, "src", file), old, new)
+            for name, old, new in edits:
+                edit(os.path.join(workdir, "src", name), old, new)
             subprocess.run([*self.command, *FLAGS, root, "-o", built], check=True)
             return self.program(built)
 
@@ -56,9 +74,11 @@ def edit(path, old, new):
 def for_x86():
     """Returns the builds by the machine's own rustc: the Rust source for two instruction sets and without vectors, and
     the assembly source, whose functions for all instruction sets are in one object."""
+
     def build(name, flags, target):
         command = "rustc", "-C", f"target-cpu={target}", *flags
         return Compiler(name, command, functools.partial(objects.RustProgram, name), objects.RustProcessor)
+
     return [build(V1, SOURCE, V1), build(V3, SOURCE, V3), build(SCALAR_BUILD, SCALAR, V1), build(ASSEMBLY, (), V1)]
 
 

@@ -1,11 +1,11 @@
 """The cases of the inductions over rustc's object: those of the assembly source, of which some are split in two."""
-from oracle.symbolic_terms import at_most, minus, plus, times, variable
+from oracle.symbolic_terms import at_most, is_same_number, minus, plus, times, variable
 
 from .. import any_updates, every_length
 from .compilers import ASSEMBLY
 
 LONGEST_SLICE = (1 << 63) - 1
-CALLED = 1024                     # bytes of XXH32 from which on the assembly source is called
+CALLED = 1024  # bytes of XXH32 from which on the assembly source is called
 IN_TURN = 16 * every_length.UNROLLED["32"]
 
 
@@ -44,4 +44,14 @@ def of_any_secret():
 
 
 def split(found, ways):
-    return [case._replace(facts=[*case.facts, *facts]) for case in found for facts in ways]
+    """Returns each case with the facts of each way. A case that has one way's facts already stays whole: no input has
+    the facts of two."""
+    return [
+        case._replace(facts=[*case.facts, *facts])
+        for case in found
+        for facts in ([[]] if any(has_facts(case, way) for way in ways) else ways)
+    ]
+
+
+def has_facts(case, facts):
+    return all(any(is_same_number(fact, known) for known in case.facts) for fact in facts)

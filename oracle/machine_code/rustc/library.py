@@ -10,11 +10,18 @@ ONE_SHOTS = {"default": "", "seed": "_with_seed", "secret": "_with_secret", "bot
 # A way to start a stream: the kind of requests that it serves, the beginning of its exports' names, and its start.
 Way = collections.namedtuple("Way", "variant prefix start")
 PLAIN = [Way("seed", "xxh{}_", "start"), Way("seed", "xxh{}_", "build"), Way("zero", "xxh{}_", "default")]
-OF_XXH3 = [Way("default", "xxh{}_", "new"), Way("seed", "xxh{}_", "with_seed"), Way("both", "raw_given_{}_", "new"),
-           Way("default", "xxh{}_", "default"), Way("both", "xxh{}_", "with_seed_and_secret"),
-           Way("seed", "raw_array_{}_", "with_seed"), Way("default", "raw_fixed_{}_", "default"),
-           Way("default", "raw_boxed_{}_", "allocate_default"), Way("seed", "raw_boxed_{}_", "allocate_with_seed"),
-           Way("both", "raw_boxed_{}_", "allocate_with_seed_and_secret")]
+OF_XXH3 = [
+    Way("default", "xxh{}_", "new"),
+    Way("seed", "xxh{}_", "with_seed"),
+    Way("both", "raw_given_{}_", "new"),
+    Way("default", "xxh{}_", "default"),
+    Way("both", "xxh{}_", "with_seed_and_secret"),
+    Way("seed", "raw_array_{}_", "with_seed"),
+    Way("default", "raw_fixed_{}_", "default"),
+    Way("default", "raw_boxed_{}_", "allocate_default"),
+    Way("seed", "raw_boxed_{}_", "allocate_with_seed"),
+    Way("both", "raw_boxed_{}_", "allocate_with_seed_and_secret"),
+]
 
 
 def ways(hash_name):

@@ -5,7 +5,7 @@ import re
 from .compilers import CRATE, PROGRAM
 
 SOURCE = os.path.join(CRATE, "src")
-PRIVATE = "buffers.rs", "kernels.rs", "processor.rs", "rattle.rs"      # modules without a public name of their own
+PRIVATE = "buffers.rs", "kernels.rs", "processor.rs", "rattle.rs"  # modules without a public name of their own
 COMMENT = re.compile(r"//[^\n]*|#\[doc[^\n]*|\$?\(?#\[doc[^\n]*")
 ITEM = re.compile(r"\bpub (?:(?:const|unsafe|async) )*(?:fn|struct|enum|union|trait|type|static|const|mod) (\w+)")
 REEXPORTED = re.compile(r"\bpub use ([^;]*);")
@@ -15,8 +15,13 @@ INTEGER = re.compile(r"\b(write_[ui]\w+) ")
 # How the program uses a trait.
 TRAITS = {"Clone": "clone", "Default": "default", "PartialEq": "equal"}
 # Names without a use: features that the build lacks, and texts.
-UNUSED = {"RandomState": "the feature `random`", "Serialize": "the feature `serialize`",
-          "Deserialize": "the feature `serialize`", "Debug": "a text", "FixedMutBuffer": "a bound, which arrays have"}
+UNUSED = {
+    "RandomState": "the feature `random`",
+    "Serialize": "the feature `serialize`",
+    "Deserialize": "the feature `serialize`",
+    "Debug": "a text",
+    "FixedMutBuffer": "a bound, which arrays have",
+}
 
 
 def public_names(texts):

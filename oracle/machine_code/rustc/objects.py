@@ -16,7 +16,19 @@ from oracle.symbolic_terms.memory import Unset
 
 from .. import lanes
 from ..instructions import NAMES, V1, V3, V4, known, letters
-from ..object_contents import CODE, CONSTANTS, FRAMES, FUNCTION, LOADED, MERGEABLE, NOBITS, NOTE, WRITTEN, is_global
+from ..object_contents import (
+    CODE,
+    CONSTANTS,
+    FRAMES,
+    FUNCTION,
+    LOADED,
+    MERGEABLE,
+    NOBITS,
+    NOTE,
+    WRITTEN,
+    Loaded,
+    is_global,
+)
 from ..memory import ReturnTo, WordMemory
 from ..objects import PC32, PLT32, Instruction, Program, Register, split
 from ..processor import Processor
@@ -25,20 +37,20 @@ from ..values import address, low
 from ..stream_state import State
 from .library import ForRust
 
-TABLES = lanes,                   # imported because it fills the table of instructions
-BY_TABLE = 9, 41, 42              # relocations by the global offset table
-STRINGS = 0x20                    # section flag
+TABLES = (lanes,)  # imported because it fills the table of instructions
+BY_TABLE = 9, 41, 42  # relocations by the global offset table
+STRINGS = 0x20  # section flag
 NOWHERE = "nowhere", 0
-LEVEL = "9processor5KNOWN"        # part of the name of the variable that has the processor's level
-UNKNOWN, BASE = 0, 1              # its values
-LEVELS = {BASE: V1, 2: V3, 3: V4}                           # and the instruction sets that they are
-Function = collections.namedtuple("Function", "place")      # value of a register loaded from the global offset table
-LOAD, CALL = "load of an address", "call by a register"     # instructions that only this reader creates
+LEVEL = "9processor5KNOWN"  # part of the name of the variable that has the processor's level
+UNKNOWN, BASE = 0, 1  # its values
+LEVELS = {BASE: V1, 2: V3, 3: V4}  # and the instruction sets that they are
+Function = collections.namedtuple("Function", "place")  # value of a register loaded from the global offset table
+LOAD, CALL = "load of an address", "call by a register"  # instructions that only this reader creates
 LOADED_FUNCTION, BY_REGISTER = re.compile(r"mov +0x0\(%rip\),%(r\w+)"), re.compile(r"\*%(r\w+)")
 ALLOCATOR = re.compile(r"_R\w+7___rustc\d+___rust_(\w+)|__rust_(\w+)")
 
 
-class OfRustc:
+class OfRustc(Loaded):
     """Overrides for the reader of an object, for either processor."""
 
     def expect_listed(self):
@@ -47,8 +59,14 @@ class OfRustc:
     def loaded_sections(self):
         found = {}
         self.left_out = {head.name for head in self.object.heads if head.flags & LOADED}
-        self.level = next((head.name for head in self.object.heads if (head.kind, head.flags, head.size) == (
-            NOBITS, WRITTEN, 1) and LEVEL in head.name), None)
+        self.level = next(
+            (
+                head.name
+                for head in self.object.heads
+                if (head.kind, head.flags, head.size) == (NOBITS, WRITTEN, 1) and LEVEL in head.name
+            ),
+            None,
+        )
         for head in self.object.heads:
             if not head.flags & LOADED or not head.size or head.kind == NOTE or head.name == FRAMES:
                 continue
@@ -95,7 +113,9 @@ class RustProgram(OfRustc, Program):
     def relocations_of(self, section):
         if section.flags != CODE:
             return {}
-        self.by_table |= {(section.name, place) for place, r_type, *_ in self.relocations_in(section) if r_type in BY_TABLE}
+        self.by_table |= {
+            (section.name, place) for place, r_type, *_ in self.relocations_in(section) if r_type in BY_TABLE
+        }
         return super().relocations_of(section)
 
     def instruction(self, section, at, end, text, places):
@@ -117,6 +137,7 @@ class RustProgram(OfRustc, Program):
 
 
 # ---- instructions that only rustc's object has
+
 
 def load_address(cpu, x):
     name, at = x.target
@@ -154,12 +175,27 @@ def with_operands(function):
 
 
 # Forms that the table of the assembly sources lacks.
-OWN = {(LOAD, "q"): load_address, (CALL, "q"): call_function, ("cpuid", ""): ask_processor, ("xgetbv", ""): ask_system,
-       ("xchg", "qq"): exchange,
-       **{key: with_operands(function) for key, function in {
-           ("add", "qm"): binary("add", "add"), ("sub", "qm"): binary("sub", "sub"), ("cmpb", "im"): compare,
-           ("divl", "m"): divide, ("divq", "m"): divide, ("mulq", "m"): whole_product, ("dec", "b"): step,
-           ("testl", "im"): test, ("or", "ib"): binary("or", "logic")}.items()}}
+OWN = {
+    (LOAD, "q"): load_address,
+    (CALL, "q"): call_function,
+    ("cpuid", ""): ask_processor,
+    ("xgetbv", ""): ask_system,
+    ("xchg", "qq"): exchange,
+    **{
+        key: with_operands(function)
+        for key, function in {
+            ("add", "qm"): binary("add", "add"),
+            ("sub", "qm"): binary("sub", "sub"),
+            ("cmpb", "im"): compare,
+            ("divl", "m"): divide,
+            ("divq", "m"): divide,
+            ("mulq", "m"): whole_product,
+            ("dec", "b"): step,
+            ("testl", "im"): test,
+            ("or", "ib"): binary("or", "logic"),
+        }.items()
+    },
+}
 
 
 @functools.cache
@@ -172,12 +208,15 @@ def known_where_reached(instruction, name):
     try:
         return known(instruction, name)
     except Unsupported as refusal:
+
         def refuse(*_, why=str(refusal)):
             raise Unsupported(why)
+
         return refuse
 
 
 # ---- the allocator
+
 
 class Allocator:
     """The calls of the global allocator. `blocks` has the memory in use, with its size and alignment."""
@@ -190,14 +229,20 @@ class Allocator:
         if name == "no_alloc_shim_is_unstable_v2":
             return None
         if name in ("alloc", "alloc_zeroed"):
-            return address(self.allocate(*arguments[:2], name == "alloc_zeroed"))
+            return address(self.allocate(arguments[0], arguments[1], name == "alloc_zeroed"))
         if name == "dealloc":
             return self.free(*arguments[:3])
         raise Unsupported(f"a call of the allocator's {name}")
 
     def allocate(self, size, alignment, is_zero):
         is_known = isinstance(size, int)
-        if not isinstance(alignment, int) or is_zero and not is_known or not is_number(size) or not is_natural(minus(size, 1)):
+        if (
+            not isinstance(alignment, int)
+            or is_zero
+            and not is_known
+            or not is_number(size)
+            or not is_natural(minus(size, 1))
+        ):
             raise Unsupported(f"memory of {size} bytes")
         cells = [(at, 1, 0 if is_zero else self.cpu.fresh("a byte", 8)) for at in range(size)] if is_known else []
         self.count += 1
@@ -223,7 +268,7 @@ class RustProcessor(Processor):
     features = None
 
     def __init__(self, found, level=BASE):
-        sets = [LEVELS.get(level, V1), *({found.name} & {*NAMES})]      # of the level, and of the compiler's target
+        sets = [LEVELS.get(level, V1), *({found.name} & {*NAMES})]  # of the level, and of the compiler's target
         super().__init__(found, max(sets))
         self.allocator = Allocator(self)
         if found.level:
@@ -251,5 +296,3 @@ def run_of_allocator(short, cpu, _):
     if (value := cpu.allocator.call(short, arguments)) is not None:
         cpu.registers["rax"] = value
     return place
-
-

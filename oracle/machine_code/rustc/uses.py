@@ -2,8 +2,21 @@
 call returns, refusals, and the other values of a stream. Each function returns its number of cases, or raises."""
 import functools
 
-from oracle.symbolic_terms import (Input, NotShown, Piece, Request, at_most, definition, given, is_same, is_same_number, minus,
-                                   plus, seed_symbol, variable)
+from oracle.symbolic_terms import (
+    Input,
+    NotShown,
+    Piece,
+    Request,
+    at_most,
+    definition,
+    given,
+    is_same,
+    is_same_number,
+    minus,
+    plus,
+    seed_symbol,
+    variable,
+)
 
 from .. import one_shots, streams
 from ..cargo import LONGEST_WITHOUT, SHORTEST, TOO_SHORT, call_into, expect_code, export_name
@@ -14,9 +27,9 @@ from .library import ForRust, ways
 
 HASHES = "32", "64", "3-64", "3-128"
 INTEGERS = {"u8": 1, "u16": 2, "u32": 4, "u64": 8, "usize": 8, "u128": 16}
-BEFORE = 0, 3, 6, 13, 29, 120     # bytes before an integer
+BEFORE = 0, 3, 6, 13, 29, 120  # bytes before an integer
 DERIVED, NEVER_DERIVED = 192, 191
-REFUSED = 1000                    # added by `secret_into_secret` to the length of a refused secret
+REFUSED = 1000  # added by `secret_into_secret` to the length of a refused secret
 LONGEST_SLICE = (1 << 63) - 1
 
 
@@ -37,6 +50,7 @@ def started(cpu, hash_name, way, request, is_cloned=False):
 
 # ---- chunks
 
+
 def integers(cpu, only=""):
     """Tests each type of integer as a chunk after some bytes, of the streams whose exports' names begin with `only`."""
     count, entries = 0, definition.program().run()
@@ -49,13 +63,17 @@ def integers(cpu, only=""):
                 library.update(cpu, hash_name, state, Piece(request.message, 0, before))
                 values = [request.message.load(at, min(8, size)) for at in range(before, before + size, 8)]
                 cpu.call(f"{way.prefix}write_{name}", address(state), *values)
-                expect(f"{way.prefix}write_{name} after {before} bytes", library.digest(cpu, hash_name, state),
-                       request.of_definition(entries))
+                expect(
+                    f"{way.prefix}write_{name} after {before} bytes",
+                    library.digest(cpu, hash_name, state),
+                    request.of_definition(entries),
+                )
                 count += 1
     return count
 
 
 # ---- the other values of a stream
+
 
 def getters(cpu):
     """Tests the seed, the number of bytes and the 32-bit hash of streams of XXH32 and XXH64."""
@@ -74,6 +92,7 @@ def getters(cpu):
 
 
 # ---- secrets
+
 
 def expect_bytes(what, memory, expected, count):
     for at in range(count):
@@ -107,8 +126,11 @@ def secret_buffers(cpu, derived_secret):
     for size in (SHORTEST, SHORTEST - 1):
         source, to = Input("s", size), new_bytes(cpu, size)
         cpu.live = [to]
-        expect("a secret's length", cpu.call("secret_into_secret", address(to), address(source), size)[0],
-               size + (REFUSED if size < SHORTEST else 0))
+        expect(
+            "a secret's length",
+            cpu.call("secret_into_secret", address(to), address(source), size)[0],
+            size + (REFUSED if size < SHORTEST else 0),
+        )
         expect_bytes("secret_into_secret", to, [source.load(at, 1) for at in range(size)], size)
     seed, to = seed_symbol("64"), new_bytes(cpu, DERIVED)
     cpu.live, cpu.not_zero = [to], [seed]
@@ -125,6 +147,7 @@ def secret_buffers(cpu, derived_secret):
 
 
 # ---- refusals
+
 
 def refused(cpu):
     """Tests secrets that are too short: one-shots of every length with secrets of every length, and streams."""
@@ -181,8 +204,14 @@ def by_each_way(cpu, is_cloned, asked=STREAMS):
         for way in ways(hash_name):
             for length, *cuts in asked:
                 fixed = 0 if way.variant == "zero" else None
-                request = Request(hash_name, "seed" if way.variant == "zero" else way.variant, length,
-                                  SHORTEST if way.variant == "both" else None, fixed, cuts)
+                request = Request(
+                    hash_name,
+                    "seed" if way.variant == "zero" else way.variant,
+                    length,
+                    SHORTEST if way.variant == "both" else None,
+                    fixed,
+                    cuts,
+                )
                 key = hash_name, request.variant, length, fixed
                 if key not in texts:
                     texts[key] = request.of_definition(entries)
@@ -209,6 +238,8 @@ def written(cpu, hash_name, way, request, is_cloned=False):
 
 def calls(is_all):
     """Returns the minimum number of cases and the function of each test. Without `is_all`, streams have few lengths."""
-    some = STREAMS[0 if is_all else 1::1 if is_all else 2]
-    by_way = [(25 * len(some), functools.partial(by_each_way, is_cloned=is_cloned, asked=some)) for is_cloned in (False, True)]
+    some = STREAMS[0 if is_all else 1 :: 1 if is_all else 2]
+    by_way = [
+        (25 * len(some), functools.partial(by_each_way, is_cloned=is_cloned, asked=some)) for is_cloned in (False, True)
+    ]
     return [(4 * 6 * 6, integers), (6, getters), (8, secrets), (16, refused), *by_way]

@@ -1,10 +1,22 @@
-"""Proves the streams of a `RawHasher` over a secret of the caller by induction, like ../xxh3_states.py for the C library, in
-the build with the assembly source. A chunk that doesn't fit in the buffer is one call of that source, with the unchanged
-stream, its secret and the chunk; ../cargo_streams.py proves this call. Digests are rustc's code."""
+"""Proves the streams of a `RawHasher` over a secret of the caller by induction, like ../xxh3_states.py for the C
+library, in the build with the assembly source. A chunk that doesn't fit in the buffer is one call of that source, with
+the unchanged stream, its secret and the chunk; ../cargo_streams.py proves this call. Digests are rustc's code."""
 import functools
 import types
 
-from oracle.symbolic_terms import LONGEST, Input, NotShown, Piece, Request, at_most, given, is_same_number, plus, same, times
+from oracle.symbolic_terms import (
+    LONGEST,
+    Input,
+    NotShown,
+    Piece,
+    Request,
+    at_most,
+    given,
+    is_same_number,
+    plus,
+    same,
+    times,
+)
 
 from .. import layouts
 from ..cargo_streams import CargoUpdates
@@ -14,10 +26,10 @@ from ..xxh3_updates import DIGESTS, UPDATES
 from . import choice, uses
 from .library import ways
 
-PREFIX = "raw_given_{}_"          # of the exports of these streams
-FILLED = 200                      # bytes of the stream whose other fields a proof's state has
+PREFIX = "raw_given_{}_"  # of the exports of these streams
+FILLED = 200  # bytes of the stream whose other fields a proof's state has
 LONGEST_SLICE = (1 << 63) - 1
-WRITES = "_xxh3_write", "_xxh3_write_v3", "_xxh3_write_v4"         # ends of the assembly source's names
+WRITES = "_xxh3_write", "_xxh3_write_v3", "_xxh3_write_v4"  # ends of the assembly source's names
 
 
 class RawStreams(CargoUpdates):
@@ -28,7 +40,9 @@ class RawStreams(CargoUpdates):
         self.way = next(way for way in ways(self.hash_name) if way.prefix == PREFIX.format(f"3_{width}"))
         first = self.place_of_core(cpu)
         fields = {name: first + at for name, at in vars(layouts.CORE).items() if name not in ("size", "capacity")}
-        self.at, self.span = types.SimpleNamespace(**{**vars(layouts.CORE), **fields}), range(first, first + layouts.CORE.size)
+        self.at, self.span = types.SimpleNamespace(**{**vars(layouts.CORE), **fields}), range(
+            first, first + layouts.CORE.size
+        )
         super().__init__(cpu)
 
     # ---- states
@@ -64,7 +78,13 @@ class RawStreams(CargoUpdates):
         other = self.filled(self.cpu, self.secret_source)
         self.cpu.loops = loops
         cells = [(at, n, x) for at, (n, x) in other.cells.items() if at not in self.span]
-        state = State("state", other.length, cells, [*self.buffered(place, f), *runs], (self.at.buffer, self.at.buffer + self.capacity))
+        state = State(
+            "state",
+            other.length,
+            cells,
+            [*self.buffered(place, f), *runs],
+            (self.at.buffer, self.at.buffer + self.capacity),
+        )
         for at, x in [*self.cells_of(self.accumulators(place)), *self.numbers(place, f)]:
             state.store(at, 8, x)
         return state
@@ -79,7 +99,9 @@ class RawStreams(CargoUpdates):
             other = self.filled(self.cpu, self.secret_source)
             for at, x in [*self.cells_of(map(self.after(0), range(8))), *self.numbers((0, 0), 0)]:
                 uses.expect(f"a new stream at {at}", state.load(at, 8), x)
-            if not all(same(state.cells.get(at, (n, None))[1], x) for at, (n, x) in other.cells.items() if at not in self.span):
+            if not all(
+                same(state.cells.get(at, (n, None))[1], x) for at, (n, x) in other.cells.items() if at not in self.span
+            ):
                 raise NotShown("a new stream has other fields")
 
     # ---- updates
@@ -104,8 +126,13 @@ class RawStreams(CargoUpdates):
 
     def called(self, calls, state, piece):
         core, own, size, chunk, length = map(self.cpu.argument, self.cpu.ARGUMENTS[:5])
-        if core.place() != (state, self.span[0]) or chunk.place() != (piece, 0) or not is_same_number(length, piece.length) or \
-                not is_same_number(size, self.secret_length) or not is_at(own, self.secret_source, 0, size):
+        if (
+            core.place() != (state, self.span[0])
+            or chunk.place() != (piece, 0)
+            or not is_same_number(length, piece.length)
+            or not is_same_number(size, self.secret_length)
+            or not is_at(own, self.secret_source, 0, size)
+        ):
             raise NotShown(f"a call with {length} bytes, and a secret of {size}")
         calls.append(core)
         to = self.cpu.return_from_another()

@@ -45,14 +45,14 @@ def given(behind, operands):
         return bytes([CODES[operands[0]] if operands else 0x40])
     if behind in ("i32", "i64"):
         return signed(with_sign(numbers[0], int(behind[1:])))
-    if behind.startswith("bytes"):          # an alignment and an offset
+    if behind.startswith("bytes"):  # an alignment and an offset
         return unsigned(0) + unsigned(numbers[0])
     if behind == "labels":
         return vector([unsigned(n) for n in numbers[:-1]]) + unsigned(numbers[-1])
     if behind == "v128":
         return b"".join(n.to_bytes(8, "little") for n in numbers)
     if behind.startswith("zeros"):
-        return bytes(int(behind[len("zeros"):]))
+        return bytes(int(behind[len("zeros") :]))
     return b"".join(map(unsigned, numbers))
 
 
@@ -86,8 +86,14 @@ def module(texts):
         name = f"f{k}".encode()
         exports.append(unsigned(len(name)) + name + b"\0" + unsigned(k + 1))
     constants = b"\0\x41" + signed(STACK_END) + END + vector([bytes([b]) for b in CONSTANTS])
-    return b"\0asm\1\0\0\0" + b"".join([
-        section(1, vector(types)), section(3, vector([unsigned(0)] + [unsigned(1)] * len(texts))),
-        section(5, vector([b"\0" + unsigned(PAGES)])), section(6, vector(globals_)), section(7, vector(exports)),
-        section(10, vector([function(HELPER, ())] + [function(text) for text in texts])),
-        section(11, vector([constants]))])
+    return b"\0asm\1\0\0\0" + b"".join(
+        [
+            section(1, vector(types)),
+            section(3, vector([unsigned(0)] + [unsigned(1)] * len(texts))),
+            section(5, vector([b"\0" + unsigned(PAGES)])),
+            section(6, vector(globals_)),
+            section(7, vector(exports)),
+            section(10, vector([function(HELPER, ())] + [function(text) for text in texts])),
+            section(11, vector([constants])),
+        ]
+    )

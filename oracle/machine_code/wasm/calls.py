@@ -2,17 +2,17 @@
 an update. A call that succeeds must write its value; a refused one must write nothing."""
 from oracle.symbolic_terms import Memory, Node, Piece, Unsupported
 
-from .. import layouts
+from . import layouts
 from .values import address
 
 DONE, SECRET_TOO_SHORT, NOT_A_STREAM = 0, 1, 2
-BYTES = {"32": 4, "64": 8, "3-64": 8, "3-128": 16}          # of a hash
+BYTES = {"32": 4, "64": 8, "3-64": 8, "3-128": 16}  # of a hash
 WAYS = {"default": "", "seed": "_with_seed", "secret": "_with_secret", "both": "_with_seed_and_secret"}
 OF_32 = layouts.PLAIN_RECORDS["32"]
 # Layouts of streams' records, and bytes that the JavaScript sets to 0 in a saved state.
 RECORDS = {"xxh32": OF_32, "xxh64": layouts.PLAIN_RECORDS["64"], "xxh3": layouts.RECORD}
 PADDING = {"xxh32": range(OF_32.buffer + OF_32.capacity, OF_32.marked)}
-DERIVED = 192                                               # bytes of the secret derived from a seed
+DERIVED = 192  # bytes of the secret derived from a seed
 
 
 def is_plain(hash_name):
@@ -48,6 +48,7 @@ def of_secret(request):
 
 
 # ---- one-shots
+
 
 def call_one_shot(vm, request, out):
     seed = begin(vm, request)
@@ -95,6 +96,7 @@ def expect_unchanged(what, memory, cells):
 
 class Page:
     """Calls the exports for streams like a page's JavaScript. `vm.loops` proves loops."""
+
     SIZES = {name[3:]: layout.size for name, layout in RECORDS.items()}
 
     @staticmethod
@@ -119,6 +121,7 @@ class Page:
 
 # ---- streams
 
+
 def anything(vm, name, size):
     """Returns memory with any content."""
     return Memory(name, size, [(at, 8, vm.fresh(name)) for at in range(0, size, 8)])
@@ -129,7 +132,7 @@ class Stream:
 
     def __init__(self, vm, request):
         self.vm, self.request, self.family = vm, request, family(request.hash_name)
-        size, = vm.call(f"twox_{self.family}_stream_size", [])
+        (size,) = vm.call(f"twox_{self.family}_stream_size", [])
         if size != RECORDS[self.family].size:
             raise Unsupported(f"a record of {size} bytes")
         self.record, self.derived = anything(vm, "the record", size), None
@@ -158,12 +161,14 @@ class Stream:
 
     def update(self, first, end):
         piece = Piece(self.request.message, first, end - first)
-        return self.vm.call(f"twox_{self.family}_update",
-                            [address(self.record), *self.secret, address(piece), end - first])
+        return self.vm.call(
+            f"twox_{self.family}_update", [address(self.record), *self.secret, address(piece), end - first]
+        )
 
     def digest(self, out, hash_name=None):
-        return self.vm.call(export(hash_name or self.request.hash_name) + "_digest",
-                            [address(self.record), *self.secret, address(out)])
+        return self.vm.call(
+            export(hash_name or self.request.hash_name) + "_digest", [address(self.record), *self.secret, address(out)]
+        )
 
     def save_and_restore(self):
         """Continues in another record, as the JavaScript does: copies all bytes to a newly started stream's record,

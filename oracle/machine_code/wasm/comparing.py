@@ -31,7 +31,7 @@ def requests(algorithm, lengths, is_stream):
     tests it."""
     for length in lengths:
         for cuts in cuts_of(length) if is_stream else [None]:
-            yield Request(*algorithm[:2], length, algorithm[2], cuts=cuts)
+            yield Request(algorithm[0], algorithm[1], length, algorithm[2], cuts=cuts)
 
 
 def with_seed_0(request):

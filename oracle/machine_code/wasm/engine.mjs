@@ -1,5 +1,6 @@
 // Prints what this engine makes of modules, which come one a line: {"module": its bytes in hexadecimal, "calls": n,
-// "place": p}. Of each: whether it is valid; then of each of its n functions f0, f1, .. sixteen bytes at p behind the call.
+// "place": p}. Of each: whether it is valid; then of each of its n functions f0, f1, .. sixteen bytes at p behind the
+// call.
 import { createInterface } from "node:readline";
 
 function called(exports, name, place) {

@@ -16,16 +16,29 @@ from .values import Trap
 
 HERE = os.path.dirname(os.path.abspath(__file__))
 STACK_BEGIN = STACK_END - STACK
-RESULT, PATTERN = STACK_BEGIN + 2048, STACK_BEGIN + 4096      # addresses
-RANDOM = 24                       # runs of an instruction on random numbers
+RESULT, PATTERN = STACK_BEGIN + 2048, STACK_BEGIN + 4096  # addresses
+RANDOM = 24  # runs of an instruction on random numbers
 ANSWER = f"i32.const {RESULT}; v128.const 0 0; v128.store 0; i32.const {RESULT}; "
 STORES = {32: "i32.store 0", 64: "i64.store 0", 128: "v128.store 0"}
 
 
 def edges(width):
     top = 1 << width - 1
-    return [0, 1, 2, width // 2 - 1, width // 2, width - 1, width, width + 1, top - 1, top, top + 1, 2 * top - 2,
-            2 * top - 1]
+    return [
+        0,
+        1,
+        2,
+        width // 2 - 1,
+        width // 2,
+        width - 1,
+        width,
+        width + 1,
+        top - 1,
+        top,
+        top + 1,
+        2 * top - 2,
+        2 * top - 1,
+    ]
 
 
 def pushed(width, rng):
@@ -42,7 +55,7 @@ def behind(opcode, rng):
         first = rng.randrange(32)
         in_order = [str((first + k) % 32) for k in range(16)]
         return " ".join(rng.choice((in_order, [str(rng.randrange(32)) for _ in range(16)])))
-    return str(rng.randrange(int(opcode.behind[len("lane"):]))) if opcode.behind else ""
+    return str(rng.randrange(int(opcode.behind[len("lane") :]))) if opcode.behind else ""
 
 
 def of_values(opcode, rng):
@@ -62,7 +75,7 @@ def pattern(rng):
 
 def of_memory(opcode, rng):
     """Yields functions that load from, or store to, a pattern in memory at any alignment, and past the memory's end."""
-    size, is_load = int(opcode.behind[len("bytes"):]), opcode.leaves
+    size, is_load = int(opcode.behind[len("bytes") :]), opcode.leaves
     for _ in range(RANDOM):
         at, offset = rng.randrange(16), rng.choice((0, 0, 1, 7, 300))
         place = f"i32.const {PATTERN + at - offset}"
@@ -94,9 +107,9 @@ BODIES = {
     "block": f"block i64; i64.const 4; i64.const 9; i32.const %; br_if 0; i64.add; end; local.set 2; {SHOW}",
     "br": f"i64.const 40; block i64; i64.const 1; i64.const 2; br 0; end; i64.sub; local.set 2; {SHOW}",
     "br_if": f"block; block; i32.const %; br_if 1; {COUNT.format(1)}; end; {COUNT.format(2)}; end; "
-             f"{COUNT.format(4)}; {SHOW}",
+    f"{COUNT.format(4)}; {SHOW}",
     "br_table": f"block; block; block; i32.const %; br_table 0 2 1; end; {COUNT.format(1)}; end; "
-                f"{COUNT.format(2)}; end; {SHOW}",
+    f"{COUNT.format(2)}; end; {SHOW}",
     "loop": f"loop; {COUNT.format(3)}; local.get 2; i64.const 20; i64.lt_u; br_if 0; end; {SHOW}",
     "if": f"i32.const %; if; {COUNT.format(5)}; end; {COUNT.format(8)}; {SHOW}",
     "end": f"block; loop; {COUNT.format(1)}; block; i32.const %; br_if 2; end; end; end; {SHOW}",
@@ -107,18 +120,18 @@ BODIES = {
     "unreachable": "i32.const %; if; unreachable; end; " + SHOW,
     "local.get": f"{ANSWER}local.get 5; local.get 2; i64x2.replace_lane 0; v128.store 0",
     "local.set": f"i64.const %; local.set 3; i64.const 1; local.set 2; local.get 3; local.set 4; local.get 4; "
-                 f"local.set 2; {SHOW}",
+    f"local.set 2; {SHOW}",
     "local.tee": f"i64.const %; local.tee 2; i64.const 1; i64.add; local.set 2; {SHOW}",
     "global.get": f"global.get 0; i64.const %; i64.add; local.set 2; {SHOW}",
     "global.set": f"i32.const %; global.set 1; global.get 1; i64.extend_i32_u; local.set 2; i32.const 0; "
-                  f"global.set 1; {SHOW}",
+    f"global.set 1; {SHOW}",
     "memory.copy": f"i32.const {PATTERN}; i64.const 0; i64.store 0; i32.const {PATTERN}; i64.const 0; i64.store 8; "
-                   f"i32.const {PATTERN + 1}; i32.const {STACK_END + 3}; i32.const %; memory.copy; "
-                   f"{ANSWER}i32.const {PATTERN}; v128.load 0; v128.store 0",
+    f"i32.const {PATTERN + 1}; i32.const {STACK_END + 3}; i32.const %; memory.copy; "
+    f"{ANSWER}i32.const {PATTERN}; v128.load 0; v128.store 0",
     "memory.fill": f"i32.const {PATTERN}; i64.const 0; i64.store 0; i32.const {PATTERN}; i64.const 0; i64.store 8; "
-                   f"i32.const {PATTERN + 2}; i32.const 0x1234; i32.const %; memory.fill; "
-                   f"{ANSWER}i32.const {PATTERN}; v128.load 0; v128.store 0; "
-                   f"i32.const {RESULT}; i32.const {PATTERN}; i64.load8_u 3; i64.store 8",
+    f"i32.const {PATTERN + 2}; i32.const 0x1234; i32.const %; memory.fill; "
+    f"{ANSWER}i32.const {PATTERN}; v128.load 0; v128.store 0; "
+    f"i32.const {RESULT}; i32.const {PATTERN}; i64.load8_u 3; i64.store 8",
 }
 
 
@@ -131,6 +144,7 @@ def functions(opcode, rng):
 
 
 # ---- both runs
+
 
 def by_machine(whole, calls):
     vm, out = Machine(Module(whole)), []
@@ -146,8 +160,13 @@ def by_machine(whole, calls):
 def by_engine(asked):
     """Runs (module, number of calls) on the engine. Returns the words of its output line for each."""
     lines = "\n".join(json.dumps({"module": whole.hex(), "calls": calls, "place": RESULT}) for whole, calls in asked)
-    done = subprocess.run([shutil.which("node"), os.path.join(HERE, "engine.mjs")], input=lines, text=True, check=True,
-                          stdout=subprocess.PIPE)
+    done = subprocess.run(
+        [shutil.which("node") or "node", os.path.join(HERE, "engine.mjs")],
+        input=lines,
+        text=True,
+        check=True,
+        stdout=subprocess.PIPE,
+    )
     outputs = [line.split() for line in done.stdout.splitlines()]
     if len(outputs) != len(asked):
         raise SystemExit("the engine told of other modules than it was asked")
@@ -163,8 +182,11 @@ def compare_instructions(machines):
     for (name, texts), (is_valid, *theirs) in zip(asked, outputs, strict=True):
         ours = by_machine(assembler.module(texts), len(texts))
         count += len(ours)
-        bad += [f"{name}: {a} here and {b} by the engine: {text}"
-                for text, a, b in zip(texts, ours, theirs, strict=True) if a != b]
+        bad += [
+            f"{name}: {a} here and {b} by the engine: {text}"
+            for text, a, b in zip(texts, ours, theirs, strict=True)
+            if a != b
+        ]
         bad += [f"{name} was not tried" for _ in range(not texts or is_valid != "true")]
     return f"{len(asked)} instructions, {count} runs", bad
 
@@ -190,8 +212,8 @@ def compare_validity(machines, count):
             place = rng.randrange(8, len(whole))
             whole[place] = rng.choice((whole[place] ^ 1 << rng.randrange(8), rng.randrange(256)))
             asked.append((bytes(whole), 0))
-    ours, bad = [verdict(whole) for whole, _ in asked], []
-    for (whole, _), mine, (theirs,) in zip(asked, ours, by_engine(asked), strict=True):
+    ours, bad = [verdict(changed) for changed, _ in asked], []
+    for (changed, _), mine, (theirs,) in zip(asked, ours, by_engine(asked), strict=True):
         if mine is not None and mine != theirs:
-            bad.append(f"a module of {len(whole)} bytes is valid here: {mine}, and by the engine: {theirs}")
+            bad.append(f"a module of {len(changed)} bytes is valid here: {mine}, and by the engine: {theirs}")
     return f"{ours.count('true')} valid, {ours.count('false')} invalid, {ours.count(None)} not read", bad

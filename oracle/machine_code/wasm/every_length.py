@@ -6,8 +6,20 @@ secrets, of 64 + 8 q + u bytes, u < 8, J is symbolic, and q is a number below 16
 import collections
 
 from oracle import specs
-from oracle.symbolic_terms import (Bytes, NotShown, Request, at_most, given, minus, nodes, plus, seed_symbol, suppositions,
-                                   times, variable)
+from oracle.symbolic_terms import (
+    Bytes,
+    NotShown,
+    Request,
+    at_most,
+    given,
+    minus,
+    nodes,
+    plus,
+    seed_symbol,
+    suppositions,
+    times,
+    variable,
+)
 
 from ..every_length import Cases
 from ..induction import Family
@@ -18,11 +30,11 @@ from .induction import proved
 from .values import LEAST_PLACE, SPACE
 
 LONGEST = SPACE - 1 - LEAST_PLACE
-LEAST_STRIPES = 9                 # of a block, with a secret of 136 bytes
+LEAST_STRIPES = 9  # of a block, with a secret of 136 bytes
 OWN_SECRET = "secret", "both"
-LONG = 241                        # minimum length of XXH3 with loops
-BLOCK = 1024                      # bytes of a block with a secret of 192 to 199 bytes
-FAR = 31_744                      # from this length on the modules have separate code for blocks
+LONG = 241  # minimum length of XXH3 with loops
+BLOCK = 1024  # bytes of a block with a secret of 192 to 199 bytes
+FAR = 31_744  # from this length on the modules have separate code for blocks
 ALGORITHMS = [("32", "seed"), ("64", "seed"), *((name, way) for name in ("3-64", "3-128") for way in WAYS)]
 
 
@@ -45,8 +57,11 @@ def cases():
 def missing(found):
     """Returns the lengths that are not in exactly one case. Checks enough blocks: further ones are alike."""
     count = collections.Counter(
-        BLOCK * B + 64 * case.J + t + 1 for case in found for t in range(case.least, case.most + 1)
-        for B in range(case.least_blocks, (FAR // BLOCK + 1 if case.most_blocks is None else case.most_blocks) + 1))
+        BLOCK * B + 64 * case.J + t + 1
+        for case in found
+        for t in range(case.least, case.most + 1)
+        for B in range(case.least_blocks, (FAR // BLOCK + 1 if case.most_blocks is None else case.most_blocks) + 1)
+    )
     return [n for n in range(LONG, BLOCK * (FAR // BLOCK + 2) + 1) if count[n] != 1]
 
 
@@ -60,7 +75,7 @@ def own_cases():
     for q in [*range(LEAST_STRIPES, BLOCK // 64), None]:
         for has_blocks, has_more in ((True, False), (True, True), (False, True)):
             yield OwnCase(q, has_blocks, has_more, False)
-            if q is None or has_blocks:         # with q < 16 and no block, there are fewer than FAR bytes
+            if q is None or has_blocks:  # with q < 16 and no block, there are fewer than FAR bytes
                 yield OwnCase(q, has_blocks, has_more, True)
 
 
@@ -72,19 +87,20 @@ def missing_own(found):
     for q in [*range(LEAST_STRIPES, 20), 494, 495, 496, 497]:
         for n in [*range(LONG, 64 * 20 * 2), *range(FAR - 70, FAR + 70)]:
             blocks, more = divmod((n - 1) // 64, q)
-            fitting = [case for case in found if case[1:] == (blocks > 0, more > 0, n >= FAR)
-                       and (case.q or max(q, 17)) == q]
+            fitting = [
+                case for case in found if case[1:] == (blocks > 0, more > 0, n >= FAR) and (case.q or max(q, 17)) == q
+            ]
             yield from [(q, n)] * (len(fitting) != (q != BLOCK // 64))
 
 
 def facts_of(case, q, B, J):
     out = [] if case.q else [minus(q, 17)]
     if case.has_blocks:
-        least = -(-FAR // (64 * case.q)) - 1 if case.q and case.is_far else 1      # minimum of B, by the length
+        least = -(-FAR // (64 * case.q)) - 1 if case.q and case.is_far else 1  # minimum of B, by the length
         out.append(minus(B, least))
     if case.has_more:
         out += [minus(J, 1), at_most(J, minus(q, 1))]
-    if case.is_far and not case.has_blocks:     # implied by the length
+    if case.is_far and not case.has_blocks:  # implied by the length
         out += [minus(J, FAR // 64 - 1), minus(q, FAR // 64)]
     return out
 
@@ -119,8 +135,15 @@ class Proof(Cases):
 
             def after(k):
                 return lambda j: accumulator(seed, message, j, k)
-            family = Family(f"XXH{width} of {n} bytes", stripe, turns, 4, after,
-                            lambda k, values: suppositions.suppose(after(k), values))
+
+            family = Family(
+                f"XXH{width} of {n} bytes",
+                stripe,
+                turns,
+                4,
+                after,
+                lambda k, values: suppositions.suppose(after(k), values),
+            )
             self.expect(family.name, self.call(family, request), self.texts[f"xxh{width}"](seed, message))
 
     # ---- XXH3
@@ -144,8 +167,15 @@ class Proof(Cases):
         of_blocks += [at_most(B, case.most_blocks)] if case.most_blocks else []
         of_rest = [minus(t, case.least), at_most(t, case.most), at_most(variable("u"), 7)]
         with given(*of_blocks, *of_rest, at_most(n, LONGEST)):
-            self.of_blocks(hash_name, way, n, size, lambda name, after, suppose: None if isinstance(B, int) else
-                           Family(name, 64, times(BLOCK // 64, B), 8, after, suppose))
+            self.of_blocks(
+                hash_name,
+                way,
+                n,
+                size,
+                lambda name, after, suppose: None
+                if isinstance(B, int)
+                else Family(name, 64, times(BLOCK // 64, B), 8, after, suppose),
+            )
 
     def of_blocks(self, hash_name, way, n, size, family):
         """Proves n > 240 bytes, with a custom secret of `size` bytes, or none. `family` makes the loops' family."""
@@ -157,6 +187,7 @@ class Proof(Cases):
 
         def after(k):
             return lambda i: accumulator(secret, message, i, k)
+
         name = f"XXH{hash_name}, {way}, of {n} bytes"
         loops = family(name, after, lambda k, values: suppositions.suppose(after(k), values))
         self.expect(name, self.call(loops, request), self.texts[specs.HASHES[hash_name]](seed, secret, message))
@@ -167,7 +198,9 @@ class Proof(Cases):
         size = plus(64, times(8, q), u)
         with given(minus(q, LEAST_STRIPES), at_most(u, 7), at_most(size, LONGEST)):
             request = Request(hash_name, way, n, size)
-            self.expect(f"XXH{hash_name}, {way}, of {n} bytes", self.call(None, request), request.of_definition(self.texts))
+            self.expect(
+                f"XXH{hash_name}, {way}, of {n} bytes", self.call(None, request), request.of_definition(self.texts)
+            )
 
     def own_secret(self, hash_name, way, case):
         """Proves 64 q B + 64 J + t + 1 bytes, with a secret of 64 + 8 q + u bytes, u < 8, q not 16."""
@@ -176,8 +209,14 @@ class Proof(Cases):
         B, J = (variable(name) if there else 0 for name, there in (("B", case.has_blocks), ("J", case.has_more)))
         n, size = plus(times(64, times(q, B)), times(64, J), t, 1), plus(64, times(8, q), u)
         parts = Part((0, 0), times(q, B), (B, 0)), Part((B, 0), J, (B, J))
-        with given(*facts_of(case, q, B, J), at_most(t, 63), at_most(u, 7), at_most(size, LONGEST), minus(n, LONG),
-                   *([minus(n, FAR), at_most(n, LONGEST)] if case.is_far else [at_most(n, FAR - 1)])):
+        with given(
+            *facts_of(case, q, B, J),
+            at_most(t, 63),
+            at_most(u, 7),
+            at_most(size, LONGEST),
+            minus(n, LONG),
+            *([minus(n, FAR), at_most(n, LONGEST)] if case.is_far else [at_most(n, FAR - 1)]),
+        ):
             self.of_blocks(hash_name, way, n, size, lambda name, *args: Stripes(name, q, parts, *args))
 
 

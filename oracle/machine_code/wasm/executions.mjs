@@ -3,8 +3,8 @@
 // line of the output is the call, or nothing if no result differs.
 import { createInterface } from "node:readline";
 
-const EDGES = [0, 1, 3, 4, 8, 9, 15, 16, 17, 31, 32, 33, 63, 64, 65, 96, 128, 129, 136, 160, 192, 240, 241, 255, 256, 257,
-  320, 448, 512, 513, 576, 640, 1023, 1024, 1025, 1088, 2048, 2049];
+const EDGES = [0, 1, 3, 4, 8, 9, 15, 16, 17, 31, 32, 33, 63, 64, 65, 96, 128, 129, 136, 160, 192, 240, 241, 255, 256,
+  257, 320, 448, 512, 513, 576, 640, 1023, 1024, 1025, 1088, 2048, 2049];
 const LONGEST = 40_000;
 const STREAMS = ["xxh32", "xxh64", "xxh3"];
 const WAYS = ["", "_with_seed", "_with_secret", "_with_seed_and_secret"];

@@ -6,7 +6,7 @@ import subprocess
 
 PROGRAM = os.path.join(os.path.dirname(os.path.abspath(__file__)), "executions.mjs")
 CALLS = 20_000
-SECONDS = 120                     # of one change: a changed module may not end
+SECONDS = 120  # of one change: a changed module may not end
 
 
 def first_difference(original, changed, seed):

@@ -24,7 +24,9 @@ class Loops:
         try:
             if proof.show():
                 proof.leave()
-                self.messages.append(f"{self.family.name}: {proof.step} stripes a turn, {len(proof.places)} places go on")
+                self.messages.append(
+                    f"{self.family.name}: {proof.step} stripes a turn, {len(proof.places)} places go on"
+                )
         finally:
             self.is_busy = False
 
@@ -41,7 +43,7 @@ def proved(proof, family, live, ask):
     return result
 
 
-class AtHead:
+class AtHead(Proof):
     """The state at a loop head that a call has reached, and the paths from it, for a subclass of a proof."""
 
     def __init__(self, loops, vm, frame):
@@ -52,10 +54,12 @@ class AtHead:
 
     def state(self):
         """Returns the state as cells."""
-        out = {}
+        out: dict = {}
         for k, x in enumerate(self.frame.variables):
-            out.update({("lane", k, lane): part for lane, part in enumerate(x)} if isinstance(x, tuple)
-                       else {("variable", k): x})
+            if isinstance(x, tuple):
+                out.update({("lane", k, lane): part for lane, part in enumerate(x)})
+            else:
+                out["variable", k] = x
         out.update({("stack", k): x for k, x in enumerate(self.frame.stack)})
         out.update({("global", k): x for k, x in enumerate(self.cpu.globals)})
         for memory in self.memories:

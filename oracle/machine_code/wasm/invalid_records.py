@@ -12,7 +12,19 @@ All other fields have any value. Of wrong accumulators there is one at a time.""
 import itertools
 import random
 
-from oracle.symbolic_terms import Input, Memory, Request, at_most, given, minus, parts_of, plus, times, value_at, variable
+from oracle.symbolic_terms import (
+    Input,
+    Memory,
+    Request,
+    at_most,
+    given,
+    minus,
+    parts_of,
+    plus,
+    times,
+    value_at,
+    variable,
+)
 from oracle.symbolic_terms.polynomials import names_of
 
 from .. import coverage
@@ -23,10 +35,10 @@ from .values import address
 
 PLAIN, XXH3 = ("32", "64"), ("3-64", "3-128")
 AT = calls.RECORDS["xxh3"]
-MOST, SEED = 2 ** 64 - 1, 7
-ROUND = 2 ** 58                   # stripes, of 2^64 bytes
-LANES, POINTS = 8, 3000           # accumulators; random records of each hash
-FEW = 64                          # bytes of a chunk, up to which an update of XXH3 has a separate path
+MOST, SEED = 2**64 - 1, 7
+ROUND = 2**58  # stripes, of 2^64 bytes
+LANES, POINTS = 8, 3000  # accumulators; random records of each hash
+FEW = 64  # bytes of a chunk, up to which an update of XXH3 has a separate path
 
 
 class Invalid(Request):
@@ -65,6 +77,7 @@ def apart_from(x, most):
 
 # ---- XXH32 and XXH64
 
+
 def of_plain(hash_name, initial):
     """Yields the invalid records of XXH32 or XXH64."""
     at, size = calls.RECORDS[f"xxh{hash_name}"], int(hash_name) // 8
@@ -75,23 +88,35 @@ def of_plain(hash_name, initial):
     def one(what, total, used, *facts, more=()):
         fields = [(at.total, 8, total), (at.marked, 8, used), *more]
         return Invalid(hash_name, what, fields, [*facts, at_most(used, MOST)], any_chunk())
+
     for total, fact in ((plus(whole, r), [at_most(plus(whole, r), MOST - 1), at_most(r, at.capacity - 1)]), (MOST, [])):
         yield one(f"a stripe and more is buffered, of {total} bytes", total, behind, *fact)
     for used, rest, fact in ((u, plus(r, 1), minus(r, u)), (plus(r, u, 1), r, minus(at.capacity - 1, plus(r, u, 1)))):
         total = plus(whole, rest)
-        yield one(f"{used} bytes are buffered, of {total}", total, used, fact, at_most(total, MOST - 1),
-                  at_most(rest, at.capacity - 1))
+        yield one(
+            f"{used} bytes are buffered, of {total}",
+            total,
+            used,
+            fact,
+            at_most(total, MOST - 1),
+            at_most(rest, at.capacity - 1),
+        )
     begun = [*zip(at.accumulators, itertools.repeat(size), initial), (at.seed, size, SEED)]
     for place, _, x in begun[:-1]:
         for value, fact in apart_from(x, 2 ** (8 * size) - 1):
-            yield one(f"{value} at {place}", u, u, fact, at_most(u, at.capacity - 1), more=[*begun, (place, size, value)])
+            yield one(
+                f"{value} at {place}", u, u, fact, at_most(u, at.capacity - 1), more=[*begun, (place, size, value)]
+            )
 
 
 # ---- XXH3
 
+
 def of_xxh3(what, count, used, total, facts, chunks=None, more=()):
     fields = [(AT.count, 8, count), (AT.buffer_usage, 8, used), (AT.total_bytes, 8, total), *more]
-    return Invalid("3-64", f"{count} stripes and {used} bytes, of {total}; {what}", fields, facts, chunks or any_chunk())
+    return Invalid(
+        "3-64", f"{count} stripes and {used} bytes, of {total}; {what}", fields, facts, chunks or any_chunk()
+    )
 
 
 def counted(used):
@@ -129,7 +154,9 @@ def with_no_stripe(initial):
             more = [(AT.current_stripe, 8, 0), *begun, (at, 8, value)]
             yield of_xxh3(f"{value} at {at}", 0, u, u, [of_use, fact], more=more)
     behind = plus(u, AT.capacity + 1)
-    yield of_xxh3("too many", 0, behind, behind, [at_most(behind, MOST)], by_length(), [(AT.current_stripe, 8, 0), *begun])
+    yield of_xxh3(
+        "too many", 0, behind, behind, [at_most(behind, MOST)], by_length(), [(AT.current_stripe, 8, 0), *begun]
+    )
 
 
 def out_of_range(q):
@@ -137,17 +164,28 @@ def out_of_range(q):
     bytes."""
     u, v = variable("u"), variable("v")
     some, behind = plus(u, 1), plus(u, AT.capacity + 1)
-    uses = [(0, [], by_length(), True), (behind, [at_most(behind, MOST)], by_length(), True),
-            (some, [at_most(some, AT.capacity)], by_capacity(some), False)]
+    uses = [
+        (0, [], by_length(), True),
+        (behind, [at_most(behind, MOST)], by_length(), True),
+        (some, [at_most(some, AT.capacity)], by_capacity(some), False),
+    ]
     positions = [(v, [minus(q, plus(v, 1))], False), (plus(v, q), [at_most(plus(v, q), MOST)], True)]
     for (used, of_use, chunks, is_use), (position, of_position, is_position) in itertools.product(uses, positions):
         for number, (count, total, facts) in enumerate(counted(used)) if is_use or is_position else ():
             taken = [minus(count, 1)] if number in (0, 2) else []
-            yield of_xxh3(f"the position {position}, {number}", count, used, total, [*facts, *taken, *of_use, *of_position],
-                          chunks, [(AT.current_stripe, 8, position)])
+            yield of_xxh3(
+                f"the position {position}, {number}",
+                count,
+                used,
+                total,
+                [*facts, *taken, *of_use, *of_position],
+                chunks,
+                [(AT.current_stripe, 8, position)],
+            )
 
 
 # ---- the calls
+
 
 def initial(vm, hash_name):
     """Returns the accumulators of a stream of no bytes."""
@@ -210,6 +248,7 @@ def digests_of(record):
 
 # ---- completeness
 
+
 def solved(fields, point):
     """Returns the values of the variables for which the fields have the point's values, as far as there are any."""
     found = {"q": point["q"], "e": 0}
@@ -253,14 +292,23 @@ def points(hash_name, initial, count):
         if hash_name in PLAIN:
             at = calls.RECORDS[f"xxh{hash_name}"]
             used = near(rng, 0, 5, at.capacity)
-            point |= {at.total: near(rng, 0, used, used + 3 * at.capacity, at.capacity, MOST), at.marked: used, at.seed: SEED}
+            point |= {
+                at.total: near(rng, 0, used, used + 3 * at.capacity, at.capacity, MOST),
+                at.marked: used,
+                at.seed: SEED,
+            }
             point |= dict(zip(at.accumulators, wrong))
         else:
-            stripes, used = rng.choice((0, near(rng, 5, ROUND, 9 * ROUND))), near(rng, 0, 1, 200, AT.capacity, AT.capacity)
+            stripes, used = rng.choice((0, near(rng, 5, ROUND, 9 * ROUND))), near(
+                rng, 0, 1, 200, AT.capacity, AT.capacity
+            )
             total = min(64 * stripes + used, MOST)
-            point |= {AT.count: stripes, AT.buffer_usage: used,
-                      AT.total_bytes: rng.choice((total, near(rng, 0, total, MOST))),
-                      AT.current_stripe: rng.choice((0, near(rng, 5, point["q"])))}
+            point |= {
+                AT.count: stripes,
+                AT.buffer_usage: used,
+                AT.total_bytes: rng.choice((total, near(rng, 0, total, MOST))),
+                AT.current_stripe: rng.choice((0, near(rng, 5, point["q"]))),
+            }
             point |= {AT.accumulator + 8 * k: x for k, x in enumerate(wrong)}
         yield point
 
@@ -269,11 +317,16 @@ def left_out(vm, all_records, count):
     """Yields the points that are no stream's and in no record, or a stream's and in one."""
     for hash_name in (*PLAIN, XXH3[0]):
         begun = initial(vm, hash_name)
-        own = [([*{at: (at, size, x) for at, size, x in record.fields}.values()], record.facts)
-               for record in all_records if record.hash_name == hash_name]
+        own = [
+            ([*{at: (at, size, x) for at, size, x in record.fields}.values()], record.facts)
+            for record in all_records
+            if record.hash_name == hash_name
+        ]
         for point in points(hash_name, begun, count):
-            is_found = any(coverage.has(solved(fields, point), facts, [(x, point[at]) for at, _, x in fields])
-                           for fields, facts in own)
+            is_found = any(
+                coverage.has(solved(fields, point), facts, [(x, point[at]) for at, _, x in fields])
+                for fields, facts in own
+            )
             if is_found == is_valid(hash_name, point, begun):
                 yield f"{hash_name}: {point}"
 

@@ -15,9 +15,9 @@ from .opcodes import BY_NAME
 from .validator import ends_of, validate
 from .values import Address, Trap, condition, decided, low
 
-STACK_POINTER = 0        # index of the global
-STACK = 1 << 16          # bytes of stack that a call may use
-MOST_STEPS = 1_000_000   # maximum number of instructions of a call
+STACK_POINTER = 0  # index of the global
+STACK = 1 << 16  # bytes of stack that a call may use
+MOST_STEPS = 1_000_000  # maximum number of instructions of a call
 
 
 class TooLong(Unsupported):
@@ -33,7 +33,7 @@ class Constants:
     def load(self, at, n):
         if not is_inside(at, n, self.length):
             raise Unsupported(f"{n} bytes at {at} of {self.name}")
-        return int.from_bytes(self.content[at:at + n], "little")
+        return int.from_bytes(self.content[at : at + n], "little")
 
     def store(self, at, n, value):
         raise Unsupported("a store to the constants")
@@ -41,6 +41,7 @@ class Constants:
 
 class Frame:
     """A call of a function: its stack, its variables, and the index of the next instruction."""
+
     __slots__ = "function", "stack", "variables", "pc"
 
     def __init__(self, function, variables):
@@ -111,7 +112,8 @@ class Machine(Names):
             branches = self.branches[function.index]
             self.code[function.index] = [
                 (DOES[x.opcode.name], (branches[pc], x.given) if pc in branches else x.given)
-                for pc, x in enumerate(function.code)]
+                for pc, x in enumerate(function.code)
+            ]
         return self.code[function.index]
 
     # ---- tests
@@ -151,15 +153,18 @@ def does(*names):
     def put(function):
         DOES.update(dict.fromkeys(names, function))
         return function
+
     return put
 
 
 def of_stack(meaning, count):
     """Returns an instruction that pops `count` values from the stack, and pushes one."""
+
     def run(vm, frame, given):
         stack = frame.stack
         first = len(stack) - count
         stack[first:] = [meaning(given, *stack[first:])]
+
     return run
 
 
@@ -168,12 +173,13 @@ def of_test(name, count):
         stack = frame.stack
         first = len(stack) - count
         stack[first:] = [vm.test(name, given, stack[first:])]
+
     return run
 
 
 for name, meaning in PURE.items():
     takes = BY_NAME[name].takes
-    DOES[name] = of_stack(meaning, 3 if takes is None else len(takes))     # the table has no types for select
+    DOES[name] = of_stack(meaning, 3 if takes is None else len(takes))  # the table has no types for select
 for name in ("i64.eq", "i64.ne", "i64.eqz"):
     DOES[name] = of_test(name, len(BY_NAME[name].takes))
 
@@ -182,6 +188,7 @@ def loading(n):
     def load(vm, frame, given):
         memory, at = vm.place(frame.stack[-1], given[1], n)
         frame.stack[-1] = memory.load(at, n)
+
     return load
 
 
@@ -190,14 +197,15 @@ def storing(n, width):
         value = frame.stack.pop()
         memory, at = vm.place(frame.stack.pop(), given[1], n)
         memory.store(at, n, value if 8 * n == width else low(value, 8 * n))
+
     return store
 
 
 for name, x in BY_NAME.items():
     if name.startswith(("i32.load", "i64.load")):
-        DOES[name] = loading(int(x.behind[len("bytes"):]))
+        DOES[name] = loading(int(x.behind[len("bytes") :]))
     elif name.startswith(("i32.store", "i64.store")):
-        DOES[name] = storing(int(x.behind[len("bytes"):]), x.takes[1])
+        DOES[name] = storing(int(x.behind[len("bytes") :]), x.takes[1])
 
 
 @does("v128.load")
@@ -238,16 +246,18 @@ def memory_fill(vm, frame, given):
 
 # ---- variables and control flow
 
-DOES.update({
-    "local.get": lambda vm, frame, index: frame.stack.append(frame.variables[index]),
-    "local.set": lambda vm, frame, index: operator.setitem(frame.variables, index, frame.stack.pop()),
-    "local.tee": lambda vm, frame, index: operator.setitem(frame.variables, index, frame.stack[-1]),
-    "global.get": lambda vm, frame, index: frame.stack.append(vm.globals[index]),
-    "global.set": lambda vm, frame, index: operator.setitem(vm.globals, index, frame.stack.pop()),
-    "drop": lambda vm, frame, given: frame.stack.pop(),
-    "loop": lambda vm, frame, given: vm.loops and vm.loops.pass_by(vm, frame),
-    **dict.fromkeys(("block", "end"), lambda vm, frame, given: None),
-})
+DOES.update(
+    {
+        "local.get": lambda vm, frame, index: frame.stack.append(frame.variables[index]),
+        "local.set": lambda vm, frame, index: operator.setitem(frame.variables, index, frame.stack.pop()),
+        "local.tee": lambda vm, frame, index: operator.setitem(frame.variables, index, frame.stack[-1]),
+        "global.get": lambda vm, frame, index: frame.stack.append(vm.globals[index]),
+        "global.set": lambda vm, frame, index: operator.setitem(vm.globals, index, frame.stack.pop()),
+        "drop": lambda vm, frame, given: frame.stack.pop(),
+        "loop": lambda vm, frame, given: vm.loops and vm.loops.pass_by(vm, frame),
+        **dict.fromkeys(("block", "end"), lambda vm, frame, given: None),
+    }
+)
 
 
 @does("unreachable")
@@ -257,9 +267,9 @@ def unreachable(vm, frame, given):
 
 def go(frame, branch):
     if branch.keeps:
-        frame.stack[branch.height:] = frame.stack[-branch.keeps:]
+        frame.stack[branch.height :] = frame.stack[-branch.keeps :]
     else:
-        del frame.stack[branch.height:]
+        del frame.stack[branch.height :]
     frame.pc = branch.target
 
 

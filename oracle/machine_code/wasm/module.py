@@ -3,7 +3,7 @@ import collections
 
 from .opcodes import BY_CODE, PREFIXES, TYPES
 
-FUNCTION, MEMORY, GLOBAL = 0, 2, 3            # types of exports
+FUNCTION, MEMORY, GLOBAL = 0, 2, 3  # types of exports
 PAGE = 65536
 MOST_LOCALS = 1000
 Signature = collections.namedtuple("Signature", "takes leaves")
@@ -27,7 +27,7 @@ class Reader:
         if n > self.end - self.at:
             raise Malformed(f"the part that ends at {self.end} is too short")
         self.at += n
-        return self.whole[self.at - n:self.at]
+        return self.whole[self.at - n : self.at]
 
     def byte(self):
         return self.take(1)[0]
@@ -111,14 +111,22 @@ class Module:
     def sections(self):
         """Maps a section's type to its position in the order, and its reader. Other sections are refused: imports,
         tables, elements, start functions and custom sections."""
-        return {1: (1, self.read_types), 3: (2, self.read_signatures), 5: (3, self.read_memory),
-                6: (4, self.read_globals), 7: (5, self.read_exports), 12: (6, self.read_count_of_segments),
-                10: (7, self.read_functions), 11: (8, self.read_segments)}
+        return {
+            1: (1, self.read_types),
+            3: (2, self.read_signatures),
+            5: (3, self.read_memory),
+            6: (4, self.read_globals),
+            7: (5, self.read_exports),
+            12: (6, self.read_count_of_segments),
+            10: (7, self.read_functions),
+            11: (8, self.read_segments),
+        }
 
     def read_types(self, part):
         def one():
             part.one_of({0x60: None}, "the type")
             return Signature(*(tuple(part.many(part.type)) for _ in range(2)))
+
         self.types = part.many(one)
 
     def read_signatures(self, part):
@@ -133,6 +141,7 @@ class Module:
         def one():
             part.one_of({0x00: None}, "a memory with the flags")
             return part.unsigned()
+
         sizes = part.many(one)
         if len(sizes) != 1 or sizes[0] > PAGE:
             raise Malformed(f"memories of {sizes} pages")
@@ -145,6 +154,7 @@ class Module:
             if width != of_value:
                 raise Malformed("a global whose value has another type")
             return Global(width, is_mutable, value)
+
         self.globals = part.many(one)
 
     def read_exports(self, part):
@@ -162,12 +172,14 @@ class Module:
 
     def read_segments(self, part):
         """Reads the initial contents of the memory: (address, bytes)."""
+
         def one():
             part.one_of({0: None}, "a segment of the kind")
             width, place = part.constant()
             if width != 32 or self.pages is None:
                 raise Malformed("a segment's place")
             return place, part.take(part.unsigned())
+
         self.segments = part.many(one)
         ends = [0, *(place + len(content) for place, content in self.segments)]
         if any(place < end or not content for end, (place, content) in zip(ends, self.segments)):
@@ -219,12 +231,18 @@ class Module:
         if behind in ("i32", "i64"):
             width = int(behind[1:])
             return body.signed(width) % (1 << width)
-        if behind.startswith("bytes"):          # bytes loaded or stored: (alignment, offset)
+        if behind.startswith("bytes"):  # bytes loaded or stored: (alignment, offset)
             return body.unsigned(), body.unsigned()
-        return {"block": lambda: self.block_type(body), "v128": lambda: body.take(16),
-                "labels": lambda: [*body.many(body.unsigned), body.unsigned()], "lanes": lambda: body.take(16),
-                "lane2": body.byte, "lane4": body.byte, "zeros1": lambda: body.take(1),
-                "zeros2": lambda: body.take(2)}[behind]()
+        return {
+            "block": lambda: self.block_type(body),
+            "v128": lambda: body.take(16),
+            "labels": lambda: [*body.many(body.unsigned), body.unsigned()],
+            "lanes": lambda: body.take(16),
+            "lane2": body.byte,
+            "lane4": body.byte,
+            "zeros1": lambda: body.take(1),
+            "zeros2": lambda: body.take(2),
+        }[behind]()
 
     def block_type(self, body):
         b = body.whole[body.at] if body.at < body.end else 0x40

@@ -27,22 +27,64 @@ from .xxh3_streams import ModuleUpdates
 
 LENGTHS = [*range(10), *range(14, 36, 3), 63, 64, 65, 96, 97, 120, 128, 129, 145, 200, 240, 241, 256, 257, 300, 1030]
 # If those detect nothing: edges first, then each length, or for streams each ninth.
-EDGES = [16, 17, 8, 9, 3, 4, 5, 128, 129, 240, 241, 31, 32, 33, 64, 65, 96, 97, 256, 257, 0, 1, 512, 513, 576, 1024,
-         1025, 1088, 1089]
+EDGES = [
+    16,
+    17,
+    8,
+    9,
+    3,
+    4,
+    5,
+    128,
+    129,
+    240,
+    241,
+    31,
+    32,
+    33,
+    64,
+    65,
+    96,
+    97,
+    256,
+    257,
+    0,
+    1,
+    512,
+    513,
+    576,
+    1024,
+    1025,
+    1088,
+    1089,
+]
 EACH_STREAM = 9
 MOST_REQUESTS = 2
 MORE_CUTS = 1, 31, 500, 33, 65, 256, 257
-MORE_PIECES = [(70, 30), (1500, 300, 1000), (1100, 600, 900), (1100, 500, 1090), (520, 500), (513, 512), (514, 500),
-               (700, 505), (970, 500, 520)]
-# Streams whose last chunk completes a buffered stripe with each of FILLS bytes, the edges of the copies; in the last two
-# a block ends within the buffer. For plain hashes, each number of buffered bytes. Then short chunks after one byte.
+MORE_PIECES = [
+    (70, 30),
+    (1500, 300, 1000),
+    (1100, 600, 900),
+    (1100, 500, 1090),
+    (520, 500),
+    (513, 512),
+    (514, 500),
+    (700, 505),
+    (970, 500, 520),
+]
+# Streams whose last chunk completes a buffered stripe with each of FILLS bytes, the edges of the copies; in the last
+# two a block ends within the buffer. For plain hashes, each number of buffered bytes. Then short chunks after one byte.
 FILLS = 1, 2, 3, 4, 5, 7, 8, 9, 15, 16, 17, 31, 32, 33, 63
-FILLED = [*((n, 64 - fill) for n in (1000, 2300) for fill in FILLS), (2020, 600, 1020), (3120, 600, 1020)]
-PLAIN_FILLED = [(80, waiting) for waiting in range(1, 32)]
-SHORT_PIECES = [(1 + n, 1) for n in range(1, 65)]
+FILLED: list[tuple[int, ...]] = [
+    *((n, 64 - fill) for n in (1000, 2300) for fill in FILLS),
+    (2020, 600, 1020),
+    (3120, 600, 1020),
+]
+PLAIN_FILLED: list[tuple[int, ...]] = [(80, waiting) for waiting in range(1, 32)]
+SHORT_PIECES: list[tuple[int, ...]] = [(1 + n, 1) for n in range(1, 65)]
 STREAM_LENGTHS = 3, 0, 5, 33, 70, 12, 257, 1500, 520, 700, 200, 600
 STREAM_CUTS = [], [1], [33], [64, 65], [255, 256], [300, 1000], [500]
-STEPS = 100_000               # maximum number of instructions of a changed module's call
+STEPS = 100_000  # maximum number of instructions of a changed module's call
 SECRETS = 136, 192
 TOO_SHORT = 0, 135
 NOTICED, NO_VALUE, REFUSED = "another value", "no value", "another term, no point found"
@@ -54,11 +96,12 @@ BY_HAND = [
     ("a prime of XXH32, another bit 27", "i32.const", 0x85EBCA77, None, 4, 0x40),
     ("a shift by 33, as by 32", "i64.const", 33, "i64.shr_u", 1, 1),
     ("a rotation by 27, as by 26", "i64.const", 27, "i64.rotl", 1, 1),
-    ("a length of 240, as 241", "i64.const", 240, "i64.gt_u", 1, 1), ("xor, as or", "i64.xor", None, None, 0, 1),
+    ("a length of 240, as 241", "i64.const", 240, "i64.gt_u", 1, 1),
+    ("xor, as or", "i64.xor", None, None, 0, 1),
     ("a load, as of bytes 8 further", "i64.load", None, None, -1, 8),
     ("a store, as of bytes 8 further", "i64.store", None, None, -1, 8),
 ]
-EACH_BY_HAND = 3              # number of places for each
+EACH_BY_HAND = 3  # number of places for each
 # Streams whose chunks separate functions take, and the step between cases of these functions.
 LONG_STREAMS, EACH_TAKEN = [(2300,), *((2300, 64 - r) for r in (1, 2, 5, 9, 20, 40)), (5300, 129)], 25
 CRASHES = AttributeError, IndexError, KeyError, TypeError, ValueError, RecursionError
@@ -66,6 +109,7 @@ CRASHES = AttributeError, IndexError, KeyError, TypeError, ValueError, Recursion
 
 class Taken:
     """A case of functions that take the stripes of long chunks (xxh3_streams.py), in the form of a request."""
+
     hash_name, variant, secret_length, what = "3-64", "seed", None, "stripes of long pieces"
 
     def __init__(self, case):
@@ -78,8 +122,14 @@ def take(vm, request):
 
 
 # Tests without a value: of a refused call, or the proof of a case.
-REFUSING = (calls.refused_one_shot, calls.refused_start, refusals.refuse_short_secret, invalid_records.refuse,
-            refusals.keep_counters, take)
+REFUSING = (
+    calls.refused_one_shot,
+    calls.refused_start,
+    refusals.refuse_short_secret,
+    invalid_records.refuse,
+    refusals.keep_counters,
+    take,
+)
 
 
 def long_pieces(vm, is_all):
@@ -97,10 +147,10 @@ def long_pieces(vm, is_all):
 def asked(is_all=True):
     """Yields the requests that cover the modules: (request, function that runs it)."""
     for algorithm in comparison.algorithms(SECRETS if is_all else SECRETS[:1]):
-        for n in LENGTHS[::1 if is_all else 3]:
+        for n in LENGTHS[:: 1 if is_all else 3]:
             yield Request(*algorithm[:2], n, algorithm[2]), calls.one_shot
         for n in STREAM_LENGTHS if is_all else STREAM_LENGTHS[::3]:
-            for cuts in STREAM_CUTS[::1 if is_all else 2]:
+            for cuts in STREAM_CUTS[:: 1 if is_all else 2]:
                 if all(cut <= n for cut in cuts):
                     yield Request(*algorithm[:2], n, algorithm[2], cuts=cuts), calls.stream
     yield from refused()
@@ -136,7 +186,9 @@ class Covered:
                     if rng.random() * seen[place, category] < 1:
                         by_category[place][category, number] = query
         vm.used = None
-        self.by_place = {place: rng.sample([*found.values()], len(found)) for place, found in sorted(by_category.items())}
+        self.by_place = {
+            place: rng.sample([*found.values()], len(found)) for place, found in sorted(by_category.items())
+        }
         self.places = sorted(self.by_place)
 
     def summary(self, vm):
@@ -146,10 +198,18 @@ class Covered:
 
 # ---- changes
 
+
 def same_types(opcode):
     """Returns the instructions that may replace one: same types, same number of bytes."""
-    return [x for x in OPCODES if x is not opcode and x.takes is not None and x[3:] == opcode[3:]
-            and x.prefix == opcode.prefix and (x.code < 128) == (opcode.code < 128)]
+    return [
+        x
+        for x in OPCODES
+        if x is not opcode
+        and x.takes is not None
+        and x[3:] == opcode[3:]
+        and x.prefix == opcode.prefix
+        and (x.code < 128) == (opcode.code < 128)
+    ]
 
 
 def change_of(x, whole, rng):
@@ -193,6 +253,7 @@ def with_change(vm, function, whole):
 
 # ---- detection
 
+
 def outcome(vm, texts, queries):
     """Returns the outcome of some requests on a changed module."""
     found = UNNOTICED
@@ -228,7 +289,9 @@ def more(queries):
     stream of each family with more chunks."""
     found = dict.fromkeys(category_of(query)[:4] for query in queries)
     # Instructions that only refused calls run are tested by streams too.
-    categories = [category for category in found if category[3] not in REFUSING] or [(*category[:3], calls.stream) for category in found][:1]
+    categories = [category for category in found if category[3] not in REFUSING] or [
+        (*category[:3], calls.stream) for category in found
+    ][:1]
     for category in categories:
         yield from of_lengths(category, EDGES)
     for answer, each in ((calls.one_shot, 1), (calls.stream, EACH_STREAM)):
@@ -239,7 +302,7 @@ def more(queries):
             yield Request(hash_name, way, n, secret, cuts=cuts), answer
     streams = {calls.family(category[0]): category for category in categories if category[3] is calls.stream}
     for family, (hash_name, way, secret, answer) in streams.items():
-        for n, *cuts in [*(FILLED if family == "xxh3" else PLAIN_FILLED), *SHORT_PIECES]:
+        for n, *cuts in (FILLED if family == "xxh3" else PLAIN_FILLED) + SHORT_PIECES:
             yield Request(hash_name, way, n, secret, cuts=cuts), answer
 
 
@@ -293,7 +356,7 @@ def random_changes(vm, covered, count, seed):
 
 def is_same_amount(function, other, pc):
     """True if the change replaces the amount of a shift or rotation by an equal one modulo the width."""
-    x, y, then = function.code[pc], other.code[pc], function.code[pc + 1:pc + 2]
+    x, y, then = function.code[pc], other.code[pc], function.code[pc + 1 : pc + 2]
     word, _, name = then[0].opcode.name.partition(".") if then else ("", "", "")
     if x.opcode is not y.opcode or x.opcode.name not in ("i32.const", "i64.const"):
         return False
@@ -314,8 +377,11 @@ def changes_by_hand(vm, covered):
 
 
 def is_there(code, pc, name, given, then):
-    return code[pc].opcode.name == name and given in (None, code[pc].given) and (
-        then is None or code[pc + 1].opcode.name == then)
+    return (
+        code[pc].opcode.name == name
+        and given in (None, code[pc].given)
+        and (then is None or code[pc + 1].opcode.name == then)
+    )
 
 
 def shown(given):
@@ -327,15 +393,18 @@ def report(machines, name, count, seed, is_all):
     vm = machines[name]
     covered, texts, called = Covered(vm, is_all), Texts(), Called()
     counts, bad = collections.Counter(), []
-    for number, (text, changed, queries) in enumerate((*changes_by_hand(vm, covered), *random_changes(vm, covered, count, seed))):
+    for number, (text, changed, queries) in enumerate(
+        (*changes_by_hand(vm, covered), *random_changes(vm, covered, count, seed))
+    ):
         what = NOT_VALID if changed is None else outcome(changed, texts, queries)
         if what == UNNOTICED:
             what = outcome(changed, texts, more(queries))
             what = of_many_bytes(changed) if what == UNNOTICED else what
             texts.forget()
         if what in (NOTICED, UNNOTICED):
-            what = called.outcome(what, functools.partial(
-                executions.first_difference, vm.module.whole, changed.module.whole, number))
+            what = called.outcome(
+                what, functools.partial(executions.first_difference, vm.module.whole, changed.module.whole, number)
+            )
         elif changed is not None:
             called.detected += 1
         counts[what.partition(":")[0]] += 1

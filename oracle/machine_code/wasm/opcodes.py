@@ -95,7 +95,7 @@ fd.df i64x2.extmul_high_i32x4_u    .        v128 v128 -> v128
 """
 
 WIDTHS = {"i32": 32, "i64": 64, "v128": 128}
-TYPES = {0x7F: 32, 0x7E: 64, 0x7B: 128}       # code of a type -> its bits
+TYPES = {0x7F: 32, 0x7E: 64, 0x7B: 128}  # code of a type -> its bits
 
 # `prefix` is None if the code is one byte; `takes` and `leaves` are None if the types depend on the context.
 Opcode = collections.namedtuple("Opcode", "name prefix code behind takes leaves")

@@ -1,5 +1,5 @@
-"""Proves the streams of XXH32 and XXH64 of a module by induction over the updates: a start, any number of updates of any
-lengths, a digest. ../any_updates.py does this for an assembly source.
+"""Proves the streams of XXH32 and XXH64 of a module by induction over the updates: a start, any number of updates of
+any lengths, a digest. ../any_updates.py does this for an assembly source.
 
 A record represents the first N = stripe * a + r bytes of a message if it has N, the seed, the definition's accumulators
 after a stripes, the number r of buffered bytes, and these bytes. The rest of its buffer is unconstrained. Calls test if
@@ -8,15 +8,14 @@ import functools
 
 from oracle.symbolic_terms import at_most, minus, plus, times, variable
 
-from .. import layouts
 from ..any_updates import AnyUpdates
-from . import calls, every_length
+from . import calls, every_length, layouts
 from .induction import proved
 
 
 class PlainStreams(AnyUpdates):
-    LAYOUTS, MARKED, library = layouts.PLAIN_RECORDS, 8, calls.Page      # the number of buffered bytes, without a mark
-    longest = (1 << 64) - 2                    # bytes of a stream, up to which its length is exact
+    LAYOUTS, MARKED, library = layouts.PLAIN_RECORDS, 8, calls.Page  # the number of buffered bytes, without a mark
+    longest = (1 << 64) - 2  # bytes of a stream, up to which its length is exact
 
     def __init__(self, vm, hash_name):
         super().__init__(vm, hash_name)
@@ -42,8 +41,14 @@ class PlainStreams(AnyUpdates):
     def update_of_page(self, a, r, b, s, facts):
         length = minus(plus(times(self.stripe, b), s), plus(times(self.stripe, a), r))
         of_a = [] if isinstance(a, int) else [minus(a, 1)]
-        self.update_between(a, r, b, s, [*of_a, *facts, at_most(length, every_length.LONGEST)],
-                            self.family(b, plus(a, int(r > 0))) if facts else None)
+        self.update_between(
+            a,
+            r,
+            b,
+            s,
+            [*of_a, *facts, at_most(length, every_length.LONGEST)],
+            self.family(b, plus(a, int(r > 0))) if facts else None,
+        )
 
 
 def show(vm, width, each=1):

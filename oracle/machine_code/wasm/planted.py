@@ -13,7 +13,7 @@ from .module import Malformed, Reader
 from .stripes import Takers
 from .xxh3_streams import ModuleUpdates
 
-ONE_SHOT = "twox_xxh64"             # takes the seed, the message's address and its length
+ONE_SHOT = "twox_xxh64"  # takes the seed, the message's address and its length
 OTHER_SEED = "local.get 0; {}; i64.extend_i32_u; i64.add; local.set 0"
 OF_ONE_LENGTH = "local.get 2; i32.const 0x2000000; i32.ne; i32.eqz; if; {}; end"
 # Title, export, and the inserted instructions.
@@ -36,12 +36,22 @@ PLANTED = [
     ("a trap at one length", ONE_SHOT, OF_ONE_LENGTH.format("unreachable")),
     ("a store behind the value", "twox_xxh3_128", "local.get 2; i32.const 0; i32.store8 16"),
     ("a refused call that writes", "twox_xxh3_64_with_secret", "local.get 4; i32.const 0; i32.store8 0"),
-    ("a value by where the secret lies beside the message", "twox_xxh3_64_with_secret",
-     "local.get 0; i64.extend_i32_u; local.get 2; i64.extend_i32_u; i64.sub; i64.const 8; i64.lt_u; if; unreachable; end"),
-    ("a secret that is too short and isn't refused at one length", "twox_xxh3_64_with_secret",
-     "local.get 3; i32.const 2000; i32.ne; i32.eqz; if; i32.const 136; local.set 1; end"),
-    ("a secret of one length that is too short and isn't refused", "twox_xxh3_64_with_secret",
-     "local.get 1; i32.const 100; i32.ne; i32.eqz; if; i32.const 136; local.set 1; end"),
+    (
+        "a value by where the secret lies beside the message",
+        "twox_xxh3_64_with_secret",
+        "local.get 0; i64.extend_i32_u; local.get 2; i64.extend_i32_u; i64.sub; "
+        "i64.const 8; i64.lt_u; if; unreachable; end",
+    ),
+    (
+        "a secret that is too short and isn't refused at one length",
+        "twox_xxh3_64_with_secret",
+        "local.get 3; i32.const 2000; i32.ne; i32.eqz; if; i32.const 136; local.set 1; end",
+    ),
+    (
+        "a secret of one length that is too short and isn't refused",
+        "twox_xxh3_64_with_secret",
+        "local.get 1; i32.const 100; i32.ne; i32.eqz; if; i32.const 136; local.set 1; end",
+    ),
     ("a digest that changes the record", "twox_xxh64_digest", "local.get 0; i32.const 0; i32.store8 8"),
 ]
 
@@ -50,27 +60,30 @@ def with_inserted(module, function, text):
     """Returns a module's bytes with instructions inserted at the start of a function."""
     whole, (first, end) = module.whole, module.place_of_functions
     begin, place = function.at + len(size_before(whole, function)), function.code[0].at
-    body = whole[begin:place] + assembled(text) + whole[place:function.end]
-    functions = whole[first:function.at] + unsigned(len(body)) + body + whole[function.end:end]
+    body = whole[begin:place] + assembled(text) + whole[place : function.end]
+    functions = whole[first : function.at] + unsigned(len(body)) + body + whole[function.end : end]
     size, other = unsigned(end - first), unsigned(len(functions))
-    if whole[first - len(size):first] != size or len(other) != len(size):
+    if whole[first - len(size) : first] != size or len(other) != len(size):
         raise Malformed("a size of another number of bytes")
-    return whole[:first - len(size)] + other + functions + whole[end:]
+    return whole[: first - len(size)] + other + functions + whole[end:]
 
 
 def size_before(whole, function):
     """Returns the bytes that encode a function's size."""
     reader = Reader(whole, function.at)
     reader.unsigned()
-    return whole[function.at:reader.at]
+    return whole[function.at : reader.at]
 
 
 def answers(vm):
     """Yields tests of a module, as functions: True if it passes. A test may also raise a refusal."""
     texts = Texts()
-    for request, answer in ((Request("64", "seed", 40), calls.one_shot), (Request("3-128", "default", 5), calls.one_shot),
-                            (Request("64", "seed", 40, cuts=[3]), calls.stream),
-                            (Request("3-64", "secret", 17, 136), calls.one_shot)):
+    for request, answer in (
+        (Request("64", "seed", 40), calls.one_shot),
+        (Request("3-128", "default", 5), calls.one_shot),
+        (Request("64", "seed", 40, cuts=[3]), calls.stream),
+        (Request("3-64", "secret", 17, 136), calls.one_shot),
+    ):
         vm.has_asked = False
         yield lambda: is_same(answer(vm, request), texts.value(request))
         if vm.has_asked:
@@ -104,8 +117,14 @@ def report(machines):
 
 # ---- streams of XXH3 of any updates
 
-FULL = "; ".join([f"local.get 0; i32.wrap_i64; i64.load {layouts.CORE.buffer_usage}; i64.const {layouts.CORE.capacity}", "i64.eq; if",
-                  "local.get 0; i32.wrap_i64; i64.const 1; i64.store 0", "end"])
+FULL = "; ".join(
+    [
+        f"local.get 0; i32.wrap_i64; i64.load {layouts.CORE.buffer_usage}; i64.const {layouts.CORE.capacity}",
+        "i64.eq; if",
+        "local.get 0; i32.wrap_i64; i64.const 1; i64.store 0",
+        "end",
+    ]
+)
 
 
 def of_full_buffer(vm, takers):
@@ -114,26 +133,34 @@ def of_full_buffer(vm, takers):
 
 def with_other_byte(number, then, byte, bits):
     """Returns a change of the function for many stripes: inverts `bits` of a number before the instruction `then`."""
+
     def make(vm, takers):
         function, whole = takers.found[TAKE_MANY.name][0], bytearray(vm.module.whole)
-        x = next(x for x, behind in zip(function.code, function.code[1:])
-                 if x.given == number and behind.opcode.name == then)
+        x = next(
+            x for x, behind in zip(function.code, function.code[1:]) if x.given == number and behind.opcode.name == then
+        )
         whole[x.at + byte] ^= bits
         return function, bytes(whole)
+
     return make
 
 
 def long_update(proof):
     """Proves an update by a long chunk, with stripes in the buffer."""
-    return functools.partial(proof.update, *next(map(proof.with_limit, proof.pieces(
-        "many", proof.starts(False), [(64, [])]))))
+    return functools.partial(
+        proof.update, *next(map(proof.with_limit, proof.pieces("many", proof.starts(False), [(64, [])])))
+    )
 
 
 def taken(which):
     """Returns a test that proves a case of the function for many stripes."""
+
     def ask(proof):
-        return functools.partial(proof.taken_of, *next(
-            (secret, case) for secret, case in proof.all_taken() if case[0] is TAKE_MANY and which(*case[1])))
+        return functools.partial(
+            proof.taken_of,
+            *next((secret, case) for secret, case in proof.all_taken() if case[0] is TAKE_MANY and which(*case[1])),
+        )
+
     return ask
 
 
@@ -147,14 +174,24 @@ def has_blocks(first, *others):
     return bool(others) and isinstance(first.turns, Poly)
 
 
-POINTS = 20                         # points per test for a missing case
+POINTS = 20  # points per test for a missing case
 CUT = [Request("3-64", "seed", 1088, cuts=[512, 1000])]
 # Faults in code that only long chunks of a stream run: title, change, test that must detect it, refusal's text.
-OF_STREAMS = [("another accumulator where the buffer is exactly full", of_full_buffer, long_update, "64*g == 512"),
-              ("no scramble where a block ends before a fourth stripe", with_other_byte(16, "i64.ne", 1, 1),
-               taken(ends_a_block), "192 of s, which has u + 192"),
-              ("fewer stripes before the first of many blocks", with_other_byte(960, "i64.and", 2, 4),
-               taken(has_blocks), "as a condition")]
+OF_STREAMS = [
+    ("another accumulator where the buffer is exactly full", of_full_buffer, long_update, "64*g == 512"),
+    (
+        "no scramble where a block ends before a fourth stripe",
+        with_other_byte(16, "i64.ne", 1, 1),
+        taken(ends_a_block),
+        "192 of s, which has u + 192",
+    ),
+    (
+        "fewer stripes before the first of many blocks",
+        with_other_byte(960, "i64.and", 2, 4),
+        taken(has_blocks),
+        "as a condition",
+    ),
+]
 
 
 def of_streams(vm, ask):
@@ -172,8 +209,11 @@ def report_of_streams(machines):
     for what, make, ask, message in OF_STREAMS:
         wrong = {name: with_change(vm, *make(vm, Takers(vm))) for name, vm in machines.items()}
         bad += [f"with {what}, elsewhere: {line}" for line in compare(wrong, CUT, calls.stream)[1]]
-        bad += [f"{name} with {what}: {why or 'it passes'}" for name, vm in wrong.items()
-                if message not in (why := of_streams(vm, ask))]
+        bad += [
+            f"{name} with {what}: {why or 'it passes'}"
+            for name, vm in wrong.items()
+            if message not in (why := of_streams(vm, ask))
+        ]
     return f"{len(OF_STREAMS) * len(machines)} planted modules, each refused", bad
 
 
@@ -181,5 +221,13 @@ def lacks_a_case(proof):
     """True if a missing update, a missing digest and missing stripes are detected."""
     updates, digests, takers = map(list, (proof.all_updates(), proof.digests(), proof.all_taken()))
     del updates[687], digests[310], takers[3]
-    return all(map(any, (coverage.without_update(updates, proof, POINTS), coverage.without_digest(digests, proof, POINTS),
-                         coverage.without_taken(takers, proof, [(TAKE.name, 0)], POINTS))))
+    return all(
+        map(
+            any,
+            (
+                coverage.without_update(updates, proof, POINTS),
+                coverage.without_digest(digests, proof, POINTS),
+                coverage.without_taken(takers, proof, [(TAKE.name, 0)], POINTS),
+            ),
+        )
+    )

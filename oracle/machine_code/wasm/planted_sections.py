@@ -5,7 +5,19 @@ from .machine import Machine
 from .module import FUNCTION, GLOBAL, Malformed, Module, Reader
 from .opcodes import TYPES as CODES
 
-TYPES, IMPORTS, SIGNATURES, TABLES, MEMORY, GLOBALS, EXPORTS, STARTS, ELEMENTS, CODE, DATA = 1, 2, 3, 4, 5, 6, 7, 8, 9, 10, 11
+TYPES, IMPORTS, SIGNATURES, TABLES, MEMORY, GLOBALS, EXPORTS, STARTS, ELEMENTS, CODE, DATA = (
+    1,
+    2,
+    3,
+    4,
+    5,
+    6,
+    7,
+    8,
+    9,
+    10,
+    11,
+)
 
 
 def sections_of(whole):
@@ -27,15 +39,22 @@ def segment(place, content, flag=b"\0"):
 
 def with_segments(make):
     """Returns a change that replaces the segments by those that `make` makes of the one segment's (address, bytes)."""
+
     def change(module, sections):
-        return [(section_id, vector(make(*module.segments[0])) if section_id == DATA else content) for section_id, content in sections
-                if section_id != DATA + 1]      # without the number of segments
+        return [
+            (section_id, vector(make(*module.segments[0])) if section_id == DATA else content)
+            for section_id, content in sections
+            if section_id != DATA + 1
+        ]  # without the number of segments
+
     return change
 
 
 def put(section_id, content, behind):
     """Returns a change that inserts a section after the section of type `behind`."""
-    return lambda module, sections: [x for one in sections for x in ([one, (section_id, content)] if one[0] == behind else [one])]
+    return lambda module, sections: [
+        x for one in sections for x in ([one, (section_id, content)] if one[0] == behind else [one])
+    ]
 
 
 def in_place(section_id, make):
@@ -44,11 +63,12 @@ def in_place(section_id, make):
 
 # ---- exports of another type
 
+
 def more(content, item):
     """Returns a vector with one more item."""
     reader = Reader(content)
     count = reader.unsigned()
-    return unsigned(count + 1) + content[reader.at:] + item
+    return unsigned(count + 1) + content[reader.at :] + item
 
 
 def type_of(*signature):
@@ -58,10 +78,18 @@ def type_of(*signature):
 
 def of_type(name, signature):
     """Returns a change after which the export is a new function of another type, which only traps."""
+
     def change(module, sections):
         added = {TYPES: type_of(*signature), SIGNATURES: unsigned(len(module.types)), CODE: FUNCTION_BODY}
-        out = [(section_id, more(content, added[section_id]) if section_id in added else content) for section_id, content in sections]
-        return [(section_id, exported(module, name, FUNCTION, len(module.signatures)) if section_id == EXPORTS else content) for section_id, content in out]
+        out = [
+            (section_id, more(content, added[section_id]) if section_id in added else content)
+            for section_id, content in sections
+        ]
+        return [
+            (section_id, exported(module, name, FUNCTION, len(module.signatures)) if section_id == EXPORTS else content)
+            for section_id, content in out
+        ]
+
     return change
 
 
@@ -70,18 +98,36 @@ FUNCTION_BODY = vector([bytes([x]) for x in b"\0" + assembled("unreachable") + E
 
 def exported(module, other, export_type, index):
     """Returns the section of exports, one of which is another thing."""
-    return vector([vector([bytes([x]) for x in name.encode()]) + bytes([export_type if name == other else old[0]]) +
-                   unsigned(index if name == other else old[1]) for name, old in module.exports.items()])
+    return vector(
+        [
+            vector([bytes([x]) for x in name.encode()])
+            + bytes([export_type if name == other else old[0]])
+            + unsigned(index if name == other else old[1])
+            for name, old in module.exports.items()
+        ]
+    )
 
 
 def with_heap_base(make):
-    """Returns a change of the global __heap_base: `make` returns (width's code, flag, value's opcode, value) of the value."""
+    """Returns a change of the global __heap_base: `make` returns (width's code, flag, value's opcode, value) of the
+    value."""
+
     def change(module, sections):
         base = module.globals[module.exports["__heap_base"][1]].value
         code, flag, opcode, value = make(base)
         item = bytes([code, flag, opcode]) + signed(value) + END
-        return [(section_id, more(content, item) if section_id == GLOBALS else exported(
-            module, "__heap_base", GLOBAL, len(module.globals)) if section_id == EXPORTS else content) for section_id, content in sections]
+        return [
+            (
+                section_id,
+                more(content, item)
+                if section_id == GLOBALS
+                else exported(module, "__heap_base", GLOBAL, len(module.globals))
+                if section_id == EXPORTS
+                else content,
+            )
+            for section_id, content in sections
+        ]
+
     return change
 
 
@@ -90,7 +136,9 @@ def of_other_types():
     function with one argument more, and with one result less or more."""
     for name, (takes, leaves) in tasks.signatures().items():
         for k in range(len(takes)):
-            yield f"{name}: another type of argument {k}", of_type(name, ((*takes[:k], 96 - takes[k], *takes[k + 1:]), leaves))
+            yield f"{name}: another type of argument {k}", of_type(
+                name, ((*takes[:k], 96 - takes[k], *takes[k + 1 :]), leaves)
+            )
         yield f"{name}: another result", of_type(name, (takes, (96 - leaves[0],) if leaves else (32,)))
         yield f"{name}: one argument more", of_type(name, ((*takes, 32), leaves))
 
@@ -105,17 +153,32 @@ WRONG = [
     ("a memory without the last page", in_place(MEMORY, lambda content: b"\1\0\x10")),
     ("a memory of one page more", in_place(MEMORY, lambda content: b"\1\0\x12")),
     ("a second segment over the first", with_segments(lambda at, data: [segment(at, data), segment(at + 30, b"\x55")])),
-    ("segments in another order", with_segments(lambda at, data: [segment(at + 96, data[96:]), segment(at, data[:96])])),
-    ("segments that meet, of which one has no bytes", with_segments(lambda at, data: [segment(at, data), segment(at, b"")])),
+    (
+        "segments in another order",
+        with_segments(lambda at, data: [segment(at + 96, data[96:]), segment(at, data[:96])]),
+    ),
+    (
+        "segments that meet, of which one has no bytes",
+        with_segments(lambda at, data: [segment(at, data), segment(at, b"")]),
+    ),
     ("a segment that lies on the stack", with_segments(lambda at, data: [segment(at - 8, b"\x55"), segment(at, data)])),
-    ("a segment that code puts into the memory", with_segments(lambda at, data: [segment(0, data, b"\1"),
-                                                                                  segment(at, data)])),
+    (
+        "a segment that code puts into the memory",
+        with_segments(lambda at, data: [segment(0, data, b"\1"), segment(at, data)]),
+    ),
     ("data that is there twice", lambda module, sections: [*sections, sections[-1]]),
-    ("code that is there twice", lambda module, sections: [x for one in sections for x in [one] * (2 if one[0] == CODE else 1)]),
+    (
+        "code that is there twice",
+        lambda module, sections: [x for one in sections for x in [one] * (2 if one[0] == CODE else 1)],
+    ),
     ("a function that starts", put(STARTS, b"\0", 7)),
     ("a table", put(TABLES, b"\1\x70\0\1", SIGNATURES)),
-    ("a table with elements", lambda module, sections: put(ELEMENTS, b"\1\0\x41\0\x0b\1\0", 7)(
-        module, put(TABLES, b"\1\x70\0\1", SIGNATURES)(module, sections))),
+    (
+        "a table with elements",
+        lambda module, sections: put(ELEMENTS, b"\1\0\x41\0\x0b\1\0", 7)(
+            module, put(TABLES, b"\1\x70\0\1", SIGNATURES)(module, sections)
+        ),
+    ),
     ("a function that another module has", put(IMPORTS, b"\1\1e\1f\0\0", TYPES)),
     ("names", put(0, b"\4name\0\1\0", DATA)),
     ("branches that an engine takes for likely", put(0, b"\x19metadata.code.branch_hint\0", MEMORY)),
@@ -135,16 +198,21 @@ def refusal(whole):
 
 
 def report(machines, each=1):
-    """Tests each module with each planted fault, or with every `each`-th type of an export. Returns faults that pass, and
-    unchanged modules that fail. The functions of a module with a fault only trap, so that reading it is short."""
+    """Tests each module with each planted fault, or with every `each`-th type of an export. Returns faults that pass,
+    and unchanged modules that fail. The functions of a module with a fault only trap, so that reading it is short."""
     bad = []
     for name, vm in machines.items():
         whole = vm.module.whole
         sections = sections_of(whole)
         bad += [f"{name} is refused: {why}" for why in [refusal(joined(whole, sections))] if why]
-        sections = in_place(CODE, lambda _, count=len(vm.module.functions): vector([FUNCTION_BODY] * count))(vm.module, sections)
+        sections = in_place(CODE, lambda _, count=len(vm.module.functions): vector([FUNCTION_BODY] * count))(
+            vm.module, sections
+        )
         bad += [f"{name} without its code is refused: {why}" for why in [refusal(joined(whole, sections))] if why]
         asked = [*WRONG, *list(of_other_types())[::each]]
-        bad += [f"{name} passes with {what}" for what, change in asked
-                if not refusal(joined(whole, change(vm.module, sections)))]
+        bad += [
+            f"{name} passes with {what}"
+            for what, change in asked
+            if not refusal(joined(whole, change(vm.module, sections)))
+        ]
     return f"{len(asked) * len(machines)} planted modules, each refused", bad

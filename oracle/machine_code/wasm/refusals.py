@@ -1,5 +1,5 @@
-"""Tests calls that the modules refuse without writing anything, because their secret has fewer than 136 bytes. Also tests
-that a counter saturates at 2^64 - 1."""
+"""Tests calls that the modules refuse without writing anything, because their secret has fewer than 136 bytes. Also
+tests that a counter saturates at 2^64 - 1."""
 import itertools
 
 from oracle.symbolic_terms import Memory, Request, Unsupported, at_most, given, plus, variable
@@ -10,10 +10,10 @@ from .comparing import compare
 from .every_length import LONGEST
 
 LEAST_SECRET = 136
-SERVED = 241                      # bytes of a message from which on a seeded call needs a secret
-FEW, TAKEN = 64, (0, 300, 700)    # bytes of a chunk, up to which an update has a separate path; bytes of started streams
+SERVED = 241  # bytes of a message from which on a seeded call needs a secret
+FEW, TAKEN = 64, (0, 300, 700)  # bytes of a chunk, up to which an update has a separate path; bytes of started streams
 XXH3 = "3-64", "3-128"
-MOST = 2 ** 64 - 1
+MOST = 2**64 - 1
 # Offsets of a record's counters, of bytes and of stripes.
 OF_32, OF_64, OF_3 = calls.RECORDS.values()
 COUNTERS = {"32": [OF_32.total], "64": [OF_64.total], **dict.fromkeys(XXH3, [OF_3.total_bytes, OF_3.count])}
@@ -36,20 +36,26 @@ def one_shots_with_short_secrets(machines):
     """Tests each length of a message and of a secret that is too short: a call that needs the secret is refused, others
     ignore it."""
     n, size, count = variable("n"), variable("size"), 0
-    for name, (way, length), vm in itertools.product(XXH3, (("secret", n), ("both", plus(n, SERVED))), machines.values()):
+    for name, (way, length), vm in itertools.product(
+        XXH3, (("secret", n), ("both", plus(n, SERVED))), machines.values()
+    ):
         refuse_any(vm, name, way, length)
         count += 1
     with short_secret(SERVED):
-        served, complaints = compare(machines, [Request(name, "both", n, size) for name in XXH3 for n in range(SERVED)], calls.one_shot)
+        served, complaints = compare(
+            machines, [Request(name, "both", n, size) for name in XXH3 for n in range(SERVED)], calls.one_shot
+        )
     return f"{served} answered, {count} refused", complaints
 
 
 def streams_with_short_secrets(machines):
-    """Tests that a start with each length of such a secret leaves the record unchanged, and an update of any length and a
-    digest of a started stream do so too."""
+    """Tests that a start with each length of such a secret leaves the record unchanged, and an update of any length and
+    a digest of a started stream do so too."""
     n, size, count = variable("n"), variable("size"), 0
     for vm in machines.values():
-        for way, (length, facts) in itertools.product(("secret", "both"), ((n, [at_most(n, FEW)]), (plus(n, FEW + 1), []))):
+        for way, (length, facts) in itertools.product(
+            ("secret", "both"), ((n, [at_most(n, FEW)]), (plus(n, FEW + 1), []))
+        ):
             with short_secret(length), given(*facts):
                 calls.refused_start(vm, Request("3-64", way, length, size))
                 expect_not_asked(vm)
@@ -100,6 +106,7 @@ def expect_refused(it, code):
 
 
 # ---- counters
+
 
 def of_counters():
     return [Request(name, "seed", n, seed=7) for name in ("32", "64", "3-64") for n in PIECES]

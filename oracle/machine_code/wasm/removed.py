@@ -30,17 +30,26 @@ def fails(ask, machines):
 
 
 def unnoticed(machines, asked, titles_of, each=1):
-    """Removes each function of each module, or every `each`-th export if that isn't 1. Returns how many exports and others
-    it removed, and those that no task detects. `asked` has titles and tasks, `titles_of` the words of an export's titles."""
+    """Removes each function of each module, or every `each`-th export if that isn't 1. Returns how many exports and
+    others it removed, and those that no task detects. `asked` has titles and tasks, `titles_of` the words of an
+    export's titles."""
     bad, count = [], {True: 0, False: 0}
     with removed.first_failure():
         for module, vm in machines.items():
             exported = {index for export_type, index in vm.module.exports.values() if export_type == 0}
-            found = [(index, names) for index, names in sorted(functions(vm.module).items()) if each == 1 or index in exported]
-            for index, names in found[each // 2::each]:
+            found = [
+                (index, names)
+                for index, names in sorted(functions(vm.module).items())
+                if each == 1 or index in exported
+            ]
+            for index, names in found[each // 2 :: each]:
                 before, vm.code[index] = vm.code.get(index), [(DOES["unreachable"], None)]
-                if not any(fails(ask, machines) for ask in in_order(asked, module, [titles_of[name] for name in names])):
-                    bad.append(f"{module}: no task notices that function {index} is removed, which {min(names)} reaches")
+                if not any(
+                    fails(ask, machines) for ask in in_order(asked, module, [titles_of[name] for name in names])
+                ):
+                    bad.append(
+                        f"{module}: no task notices that function {index} is removed, which {min(names)} reaches"
+                    )
                 vm.code.pop(index)
                 vm.code.update({} if before is None else {index: before})
                 count[index in exported] += 1
@@ -49,8 +58,11 @@ def unnoticed(machines, asked, titles_of, each=1):
 
 def in_order(asked, module, titles):
     """Returns the tasks that show one of some exports, those that take longer last."""
-    shown = [(title, ask) for title, ask in asked if any(is_shown(title, *some) for some in titles)
-             and (".wasm" not in title or f"{module}:" in title)]
+    shown = [
+        (title, ask)
+        for title, ask in asked
+        if any(is_shown(title, *some) for some in titles) and (".wasm" not in title or f"{module}:" in title)
+    ]
     return [ask for _, ask in sorted(shown, key=lambda one: any(late in one[0] for late in LATE))]
 
 

@@ -15,6 +15,7 @@ def of_test(test, width):
 
 # ---- vectors
 
+
 def on_lanes(operation):
     return lambda given, a, b: tuple(binary(operation, WORD, x, y) for x, y in zip(a, b))
 

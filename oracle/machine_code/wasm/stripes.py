@@ -13,7 +13,7 @@ from .machine import STACK, STACK_POINTER
 from .values import Address, address
 
 UPDATE = "twox_xxh3_update"
-FRAME = "global.get", "i64.const", "i64.sub"      # beginning of a function that reserves stack
+FRAME = "global.get", "i64.const", "i64.sub"  # beginning of a function that reserves stack
 
 
 def called(function):
@@ -23,7 +23,7 @@ def called(function):
 
 def frame_size(function):
     """Returns the bytes of the stack that a function reserves at its start."""
-    first = function.code[:len(FRAME)]
+    first = function.code[: len(FRAME)]
     return first[1].given if tuple(x.opcode.name for x in first) == FRAME else 0
 
 
@@ -32,13 +32,16 @@ class Takers:
 
     def __init__(self, vm):
         functions, self.vm = vm.module.functions, vm
-        far, = called(vm.module.exported(UPDATE))
-        self.long_pieces, = (functions[k] for k in called(functions[far]) if called(functions[k]))
-        many, = called(self.long_pieces)
+        (far,) = called(vm.module.exported(UPDATE))
+        (self.long_pieces,) = (functions[k] for k in called(functions[far]) if called(functions[k]))
+        (many,) = called(self.long_pieces)
         one, blocks = sorted((functions[k] for k in called(functions[many])), key=loops_in)
         end = vm.end_of_stack - frame_size(functions[many])
-        self.found = {TAKE_MANY.name: (functions[many], vm.end_of_stack), TAKE.name: (one, end),
-                      TAKE_BLOCKS.name: (blocks, end)}
+        self.found = {
+            TAKE_MANY.name: (functions[many], vm.end_of_stack),
+            TAKE.name: (one, end),
+            TAKE_BLOCKS.name: (blocks, end),
+        }
 
     def place_of_end(self, name):
         """Returns the offset of the stack pointer in the stack when such a function is called."""
@@ -47,7 +50,7 @@ class Takers:
     def call(self, name, *arguments):
         """Calls such a function. All globals except the stack pointer are unconstrained."""
         function, end = self.found[name]
-        others = [self.vm.fresh("a global", x.width) for x in self.vm.module.globals[STACK_POINTER + 1:]]
+        others = [self.vm.fresh("a global", x.width) for x in self.vm.module.globals[STACK_POINTER + 1 :]]
         self.vm.call_function(function, list(map(of_module, arguments)), [end, *others])
 
     def expect_stack(self, name):
@@ -59,8 +62,10 @@ class Takers:
     def replaced(self, summaries, family, source, secret):
         """Maps functions' indices to their replacements: a call takes parts of the family, from the inputs `source` and
         `secret`."""
-        return {self.found[summary.name][0].index: functools.partial(self.take, summary, family, source, secret)
-                for summary in summaries}
+        return {
+            self.found[summary.name][0].index: functools.partial(self.take, summary, family, source, secret)
+            for summary in summaries
+        }
 
     def take(self, summary, family, source, secret, *arguments):
         vm, floor = self.vm, self.place_of_end(summary.name)

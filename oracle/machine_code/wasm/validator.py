@@ -4,7 +4,7 @@ import collections
 
 from .module import PAGE, Malformed
 
-UNKNOWN = None           # any type, of a value in unreachable code
+UNKNOWN = None  # any type, of a value in unreachable code
 BOOLEAN = ADDRESS = 32
 Block = collections.namedtuple("Block", "opcode takes leaves height pc end")
 Branch = collections.namedtuple("Branch", "target keeps height")
@@ -49,7 +49,9 @@ class Validator:
             return expected
         require(len(self.types) > height, "too few values")
         found = self.types.pop()
-        require(UNKNOWN in (found, expected) or found == expected, f"a value of {found} bits, where {expected} are taken")
+        require(
+            UNKNOWN in (found, expected) or found == expected, f"a value of {found} bits, where {expected} are taken"
+        )
         return expected if found is UNKNOWN else found
 
     def pop_all(self, expected):
@@ -70,7 +72,7 @@ class Validator:
 
     def cut_off(self):
         """Marks the rest of the block as unreachable."""
-        del self.types[self.blocks[-1].height:]
+        del self.types[self.blocks[-1].height :]
         self.is_unreachable[-1] = True
 
     def block(self, label):
@@ -94,9 +96,9 @@ class Validator:
         behind = x.opcode.behind
         if behind.startswith("bytes"):
             require(self.module.pages is not None, "no memory")
-            require(x.given[0] < 5 and 1 << x.given[0] <= int(behind[len("bytes"):]), "an alignment")
+            require(x.given[0] < 5 and 1 << x.given[0] <= int(behind[len("bytes") :]), "an alignment")
         elif behind.startswith("lane") and behind != "lanes":
-            require(x.given < int(behind[len("lane"):]), "a lane that is not there")
+            require(x.given < int(behind[len("lane") :]), "a lane that is not there")
         elif behind == "lanes":
             require(all(k < 32 for k in x.given), "a lane that is not there")
         elif behind.startswith("zeros"):
@@ -174,7 +176,9 @@ class Validator:
         self.types.append(self.module.globals[index].width)
 
     def check_global_set(self, index, pc):
-        require(index < len(self.module.globals) and self.module.globals[index].is_mutable, f"a store to global {index}")
+        require(
+            index < len(self.module.globals) and self.module.globals[index].is_mutable, f"a store to global {index}"
+        )
         self.pop(self.module.globals[index].width)
 
 

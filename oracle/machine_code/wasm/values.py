@@ -2,16 +2,35 @@
 64-bit lanes."""
 import contextlib
 
-from oracle.symbolic_terms import (BINARY, Memory, Node, Poly, Undecided, Unsupported, at_most, compare_numbers, divided,
-                                   halves, is_natural, is_number, is_same_number, minus, ones, operations, plus, rotated,
-                                   times, wrapped, zeros_below)
+from oracle.symbolic_terms import (
+    BINARY,
+    Memory,
+    Node,
+    Poly,
+    Undecided,
+    Unsupported,
+    at_most,
+    divided,
+    halves,
+    is_natural,
+    is_number,
+    is_same_number,
+    minus,
+    ones,
+    operations,
+    plus,
+    times,
+    wrapped,
+    zeros_below,
+)
+from oracle.symbolic_terms.signs_and_rotations import compare_numbers, rotated
 from oracle.symbolic_terms.polynomials import polynomial, remainder
 
 from .. import values as of_text
 
 WORD, HALF = 64, 32
-SPACE = 1 << 32          # end of the address space for objects
-LEAST_PLACE = 1024       # lowest address of an object
+SPACE = 1 << 32  # end of the address space for objects
+LEAST_PLACE = 1024  # lowest address of an object
 
 
 class Trap(Unsupported):
@@ -71,9 +90,11 @@ def condition(x, what):
 
 # ---- addresses
 
+
 class Address(of_text.Address):
     """A sum of objects' unknown addresses and an offset. The objects begin at LEAST_PLACE or above, end below 2 ^ 32,
     and don't contain each other, even if empty."""
+
     __slots__ = ()
 
     def __getattr__(self, name):
@@ -114,7 +135,7 @@ def is_far(x, least):
 
 
 def compare_addresses(test, width, a, b):
-    if b.__class__ is int and b == 0 and test in ("eq", "ne"):       # no object begins at 0
+    if b.__class__ is int and b == 0 and test in ("eq", "ne"):  # no object begins at 0
         a.near()
         return int(test == "ne")
     if width == WORD and is_number(b) and test in ("lt_u", "ge_u") and is_far(a, b):
@@ -124,7 +145,7 @@ def compare_addresses(test, width, a, b):
 
 # ---- operations
 
-NAMES = {"shr_u": "lshr", "rem_u": "urem"}       # names of the same operations in symbolic_terms/machine.py
+NAMES = {"shr_u": "lshr", "rem_u": "urem"}  # names of the same operations in symbolic_terms/machine.py
 NOTED = "add", "mul", "and", "or", "shl", "lshr"  # operations in a product by halves
 
 

@@ -6,18 +6,31 @@ Each call takes the secret, of any length that fits in memory. Calls test if the
 record without stripes, whose accumulators are known, is a separate case."""
 import functools
 
-from oracle.symbolic_terms import (LONGEST as MOST_BYTES, Node, NotShown, Request, at_most, given, is_natural, is_same_number, minus,
-                                   plus, same, symbol, times, variable)
+from oracle.symbolic_terms import (
+    LONGEST as MOST_BYTES,
+    Node,
+    NotShown,
+    Request,
+    at_most,
+    given,
+    is_natural,
+    is_same_number,
+    minus,
+    plus,
+    same,
+    symbol,
+    times,
+    variable,
+)
 
-from .. import layouts
 from ..cargo_streams import FEW
 from ..whole_blocks import BLOCKS, in_few, in_numbers, may_hold, names_in, with_value
 from ..xxh3_updates import DIGESTS, STRIPES, UPDATES, Start, Xxh3Updates
-from . import calls, every_length
+from . import calls, every_length, layouts
 from .induction import Loops
 from .stripes import Takers
 
-LONGEST = every_length.LONGEST    # bytes of a chunk and of a secret, by the size of the memory
+LONGEST = every_length.LONGEST  # bytes of a chunk and of a secret, by the size of the memory
 
 
 def parted(case, at):
@@ -27,11 +40,11 @@ def parted(case, at):
         return
     yield from (none for none in in_few(in_numbers(case, BLOCKS, 0)) if may_hold(none[at]))
     facts = [*case[at], minus(variable(BLOCKS), 1)]
-    yield (*case[:at], facts, *case[at + 1:])
+    yield (*case[:at], facts, *case[at + 1 :])
 
 
 class ModuleUpdates(Xxh3Updates):
-    at, HAS_COUNTERS, TASKS = layouts.RECORD, False, (UPDATES, DIGESTS, STRIPES)     # refusals.py tests the counters
+    at, HAS_COUNTERS, TASKS = layouts.RECORD, False, (UPDATES, DIGESTS, STRIPES)  # refusals.py tests the counters
     library, longest_secret, longest_piece = calls.Page, LONGEST, LONGEST
 
     def __init__(self, vm):
@@ -66,11 +79,14 @@ class ModuleUpdates(Xxh3Updates):
                 raise NotShown(f"a start, {way}: whether the seed is 0 was asked")
             self.has_seed, self.seed = int(seed is not None), seed
             cells = [*self.cells_of(map(self.after(0), range(8))), *self.numbers((0, 0), 0)]
-            self.expect_stored(f"a start, {way}", stream.record, [*self.own()[:1 + self.has_seed], *cells])
+            self.expect_stored(f"a start, {way}", stream.record, [*self.own()[: 1 + self.has_seed], *cells])
             if way == "seed":
                 secret = self.texts["derived_secret"](seed)
-                self.expect_stored("a derived secret", stream.derived, [
-                    (k, self.texts["word64"](secret, k)) for k in range(0, calls.DERIVED, 8)])
+                self.expect_stored(
+                    "a derived secret",
+                    stream.derived,
+                    [(k, self.texts["word64"](secret, k)) for k in range(0, calls.DERIVED, 8)],
+                )
 
     def expect_stored(self, what, memory, cells):
         for at, x in cells:
@@ -131,7 +147,7 @@ class ModuleUpdates(Xxh3Updates):
             yield case
             return
         yield *others, [*facts, minus(self.stripes(place), 1)]
-        if is_same_number(place[1], variable("j")):           # other places in a block have a stripe before them
+        if is_same_number(place[1], variable("j")):  # other places in a block have a stripe before them
             yield in_numbers(in_numbers((*others, facts), "b", 0), "j", 0)
 
     def update(self, start, end, length, facts, *rest):
