@@ -19,7 +19,7 @@ import time
 
 from checks.lib import command
 from checks.lib.report import Report
-from checks.lib.tools import TOP, text_of
+from checks.lib.tools import TOP, ran, text_of
 
 from .parts import Part
 
@@ -84,6 +84,12 @@ def copied(workdir):
     return top
 
 
+def args_for_ci(workdir, anew):
+    """Arguments by which `rt ci` also proves what this machine has kept. Release 13b keeps nothing, and prints its
+    usage for such an argument."""
+    return [] if ran(["rt", "ci", *anew], cwd=workdir).stdout.startswith("usage:") else anew
+
+
 def parts(top, anew):
     """Runs the parts, each with the minimum number of its checks, and returns their results. Parts that are started
     before they are followed run in parallel with the others. `anew` are the arguments for `rt ci`."""
@@ -110,7 +116,7 @@ def main():
     with tempfile.TemporaryDirectory(prefix="checks-all-") as workdir:
         if anew:
             os.environ["XDG_CACHE_HOME"] = f"{workdir}/cache"
-        summaries, passed, failed = zip(*parts(copied(workdir), anew))
+        summaries, passed, failed = zip(*parts(copied(workdir), args_for_ci(workdir, anew)))
     print("", *summaries, sep="\n")
     print(f"in all: {(time.monotonic() - began) / 60:.1f} minutes, {memory.most - memory.start_value:.1f} GB of memory")
     report.count(sum(passed), sum(failed))

@@ -19,7 +19,7 @@ from . import source
 # rt's message for an edit at which the prover reached a limit of its own.
 BY_LIMIT = "only by a limit of the prover"
 # The functions of rt that this program calls. A new release may name these differently.
-USED = ("checked", "must_fail", "read_edit", "unread", "rtlib", "REFUSED", "AT_LIMIT")
+USED = ("checked", "must_fail", "read_edit", "unread", "rtlib")
 
 
 def load():
@@ -155,8 +155,8 @@ def try_alone(crate, edit_file, cache):
 
 
 def is_refusal(outcome):
-    """True for rt's outcomes of an edit that isn't proved."""
-    return outcome in (rt.REFUSED, rt.AT_LIMIT)
+    """True for rt's outcomes of an edit that isn't proved: release 13b returns a flag, release 13f an outcome."""
+    return outcome if isinstance(outcome, bool) else outcome in (rt.REFUSED, rt.AT_LIMIT)
 
 
 def is_built(crate):
