@@ -214,6 +214,7 @@ def calls(rng):
         lambda: new_processor(instruction("vmovdqa", Register("ymm1"), Register("ymm2"))).call("f"),
         "a vector that isn't set",
     )
+    to: Any
     for name, source in (
         ("memcpy", Numbers("m", bytes(range(100, 132)))),
         ("memmove", Numbers("m", bytes(range(100, 132)))),

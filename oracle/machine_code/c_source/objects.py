@@ -13,7 +13,7 @@ from ..one_shots import NAMES, WAYS, is_plain, of_seed
 from ..processor import Processor
 from ..rustc.objects import RustProgram, known_where_reached
 from ..streams import OK, ForC, expect_answer
-from ..values import address
+from ..values import Address, address
 from . import forms
 
 TABLES = (forms,)  # imported because it fills the table of instructions
@@ -104,6 +104,7 @@ def allocate(cpu, _):
     size = cpu.registers["rdi"]
     if not isinstance(size, int):
         raise Unsupported(f"memory of {size} bytes")
+    found: int | Address
     place, found = cpu.return_from_another(), 0
     if not cpu.is_full:
         block = WordMemory(f"block {len(cpu.blocks)}", size)

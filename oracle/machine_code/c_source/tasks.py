@@ -1,6 +1,7 @@
 """Chooses the tasks of oracle/c-object: the functions of c/source/xxhash.c in each compiler's object, compared with the
 definition."""
 import functools
+from typing import Iterator
 
 from oracle.symbolic_terms import Request, comparison, cuts, processes
 from oracle.symbolic_terms.comparison import title_of
@@ -81,7 +82,7 @@ def value_tasks(processors, is_all):
     """Yields the tasks of one-shots and of streams, one by one."""
     for algorithm in comparison.algorithms(SECRETS if is_all else SECRETS[:1]):
         lengths = ONE_BY_ONE if is_all else FEW if algorithm[2] else SOME
-        asked = comparison.requests(*algorithm, lengths)
+        asked: list | Iterator = comparison.requests(*algorithm, lengths)
         yield compared(processors, f"{title_of(*algorithm)}, one-shots", asked, OfText(one_shots))
         asked = list(cuts.streams(*algorithm, cuts.STREAMED if is_all else STREAMED))
         asked = [*asked, *at_once(algorithm)] if is_all else asked[::SOME_STREAMS]
