@@ -38,7 +38,7 @@ def options(description: str | None, jobs: int = 2) -> argparse.ArgumentParser:
     return out
 
 
-def chosen(tasks: list[Task], given: argparse.Namespace) -> list[Task]:
+def chosen(tasks: list, given: argparse.Namespace) -> list:
     """Returns the tasks that the options ask for."""
     return [task for task in tasks if given.only in task.title][given.skip:]
 
