@@ -158,8 +158,7 @@ def forms():
 
 
 def without_mark(cpu: Cpu) -> int:
-    """Tests memory with any content, and any word in the mark's place that isn't a mark: all below the first mark,
-    between two, and above the last."""
+    """Tests memory with any content, and words that aren't a mark in its place: below the first, between, above."""
     count, v = 0, variable("v")
     plain = [(name, [(at.first_mark, at.capacity)], None, []) for name, at in layouts.PLAIN.items()]
     for hash_name, marks, secret, facts in [*plain, *((name, [(mark, 1) for mark in sorted(marks)], secret, facts)

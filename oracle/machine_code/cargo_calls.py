@@ -68,8 +68,7 @@ def secrets_of_long_inputs(cpu: Cpu) -> int:
 # ---- refused chunks
 
 def chunks(waiting: Value) -> Iterator[tuple[Callable, Value, list[Value]]]:
-    """Yields the lengths of a chunk by the paths of a write, which has another one for a few bytes that fit in the
-    buffer beside the waiting ones."""
+    """Yields the lengths of a chunk by the paths of a write: another one for a few bytes that fit in the buffer."""
     (place, n, facts), *few = lengths_of(FEW_BYTES)
     more = minus(plus(n, waiting), CAPACITY + 1)
     is_split = not is_same_number(waiting, 0) and is_natural(minus(CAPACITY, waiting))

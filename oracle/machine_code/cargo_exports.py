@@ -1,8 +1,8 @@
 """Lists the exports of the cargo crate's sources with their tasks, and finds functions shared by two sources."""
 import re
-from typing import Collection
+from typing import Collection, Mapping
 
-from .cargo import CargoProgram, export_name
+from .cargo import OfCargo, export_name
 from .objects import Program
 
 BEGIN = "cargo: "                 # beginning of each task's title
@@ -16,7 +16,7 @@ def shown_by() -> dict[str, str]:
     return {name: BEGIN + title for name, title in out.items()}
 
 
-def exports_left_out(texts: dict[str, CargoProgram], titles: Collection[str]) -> tuple[int, list[str]]:
+def exports_left_out(texts: Mapping[str, OfCargo], titles: Collection[str]) -> tuple[int, list[str]]:
     known, bad = shown_by(), []
     for name, program in texts.items():
         bad += [f"{name}: {export}" for export in program.exports

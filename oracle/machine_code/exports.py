@@ -5,14 +5,15 @@ from typing import Collection
 from oracle.symbolic_terms import NotShown
 
 from . import streams
-from .cargo_exports import Program, shared
+from .cargo_exports import shared
+from .objects import Loaded, Program
 from .one_shots import NAMES, WAYS, is_plain, name_of
 
 SAME = "names of another's code"
 STREAMS, FORGET = "streams", "freed states"
 
 
-def shown_by(program: Program | None = None) -> dict[str, str]:
+def shown_by(program: Loaded | None = None) -> dict[str, str]:
     """Maps each name to the beginning of a task's title."""
     out = {"XXH_versionNumber": "the version", "XXH128_isEqual": "equal hashes", "XXH128_cmp": "the order of hashes",
            "proved_XXH3_generateSecret": "made secrets", "XXH3_generateSecret_fromSeed": "the derived secret"}
@@ -30,7 +31,7 @@ def shown_by(program: Program | None = None) -> dict[str, str]:
     return {**out, **dict.fromkeys(twins(program), SAME)}
 
 
-def twins(program: Program | None = None) -> dict[str, str]:
+def twins(program: Loaded | None = None) -> dict[str, str]:
     """Maps names to the name with the same code: calls with two names, and `_dispatch` variants, unwrapped on ARM."""
     out = {"XXH128": "XXH3_128bits_withSeed"}
     for name in ("XXH3_64bits", "XXH3_128bits"):
@@ -41,7 +42,7 @@ def twins(program: Program | None = None) -> dict[str, str]:
     return out
 
 
-def expect_all(program: Program, titles: Collection[str]) -> int:
+def expect_all(program: Loaded, titles: Collection[str]) -> int:
     """Checks that the source exports exactly the names of the table, and that each has its task."""
     known = shown_by(program)
     for name in sorted({*known, *program.exports}):
@@ -54,7 +55,7 @@ def expect_all(program: Program, titles: Collection[str]) -> int:
     return len(known)
 
 
-def expect_twins(program: Program) -> int:
+def expect_twins(program: Loaded) -> int:
     """Checks that each twin has the same instructions as the other name."""
     for name, other in twins(program).items():
         if code_of(program, name) != code_of(program, other):
@@ -83,7 +84,7 @@ def expect_code_of_v3(program: Program, other: Program) -> int:
     return len(found)
 
 
-def code_of(program: Program, name: str) -> list[tuple]:
+def code_of(program: Loaded, name: str) -> list[tuple]:
     """Returns the instructions of a function's section, with their offsets."""
     if name not in program.exports:
         raise NotShown(f"{name} isn't exported")

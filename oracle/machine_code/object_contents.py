@@ -103,6 +103,7 @@ class Loaded:
 
     MACHINE = X86_64
     EXPORT = GLOBAL, DEFAULT      # binding and visibility
+    sections: dict                # of a subclass: name -> address -> instruction
 
     def __init__(self, path):
         self.object = Object(path)

@@ -11,7 +11,7 @@ from . import (any_secret, any_updates, calls, coverage, every_length, exports, 
                scalar, streams, xxh3_states, xxh3_updates)
 from .cargo import CargoProcessor, CargoProgram
 from .instructions import V1, V2, V3, V4
-from .objects import Program
+from .objects import Loaded, Program
 from .processor import Processor
 from .sources import assembled, expect_alike
 from .unwinding import expect_frames
@@ -70,7 +70,7 @@ def choose(options: Any, texts: dict[str, Program]) -> list[Task]:
     return tasks
 
 
-def export_task(texts: dict[str, Program], titles: list[str]) -> Task:
+def export_task(texts: Mapping[str, Loaded], titles: list[str]) -> Task:
     return counted("each export has its task", 55 * len(texts),
                    lambda: (sum(exports.expect_all(program, titles) for program in texts.values()), []))
 
@@ -329,12 +329,12 @@ def call_tasks(texts, processors, is_all):
             twin_task(texts), frames_task(texts)]
 
 
-def twin_task(texts: dict[str, Program]) -> Task:
+def twin_task(texts: Mapping[str, Loaded]) -> Task:
     return counted("names of another's code", 9 * len(texts),
                    lambda: (sum(exports.expect_twins(program) for program in texts.values()), []))
 
 
-def frames_task(texts: Mapping[str, Program], least: int = FEWEST_FRAMED) -> Task:
+def frames_task(texts: Mapping[str, Loaded], least: int = FEWEST_FRAMED) -> Task:
     """Returns the task of unwinding tables: a minimum number of instructions per source."""
     return counted("the frame at each instruction", least * len(texts),
                    lambda: (sum(map(expect_frames, texts.values())), []))

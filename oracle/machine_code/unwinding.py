@@ -10,8 +10,8 @@ from assembly.eh_frame import Table
 from oracle.symbolic_terms import NotShown, signed
 
 from .instructions import PARTS, VECTORS
-from .object_contents import CODE
-from .objects import Immediate, Instruction, Program, Register
+from .object_contents import CODE, Loaded
+from .objects import Immediate, Instruction, Register
 
 VECTOR_BYTES = {"x": 16, "y": 32, "z": 64}
 NOTHING, ANYWHERE = (0, 0), (-(1 << 14), 1 << 14)         # bytes that an instruction may change
@@ -51,7 +51,7 @@ class X86:
         return 0, {}, {}, used, changed if is_store else NOTHING
 
 
-def expect_frames(program: Program) -> int:
+def expect_frames(program: Loaded) -> int:
     """Checks the table at each reachable instruction. Returns their number."""
     processor, count = getattr(program, "frames", X86), 0
     code = {name for name, head in program.heads.items() if head.flags == CODE}
