@@ -6,7 +6,7 @@ WIDE_ADVANCES = {0x02: '<B', 0x03: '<H', 0x04: '<I'}
 DEF_CFA, NOTHING = 0x0c, 0x00
 
 
-def number(data, at, is_signed=False):
+def number(data: bytes, at: int, is_signed: bool = False) -> tuple[int, int]:
     """A number of the form LEB128, and its end."""
     value = shift = 0
     while True:

@@ -23,6 +23,7 @@ import hashlib
 import struct
 import sys
 from collections import namedtuple
+from typing import Callable, Iterator
 
 from assembly.eh_frame import Table
 
@@ -141,7 +142,7 @@ def is_global(symbol: Symbol) -> bool:
     return symbol.info >> 4 != 0
 
 
-def notes_of(data, align):
+def notes_of(data: bytes, align: int) -> Iterator[tuple[tuple[int, bytes], bytes]]:
     """Each note: its kind and its name, and its content."""
     at = 0
     while at < len(data):
@@ -151,7 +152,7 @@ def notes_of(data, align):
         at = begin + (size + align - 1 & -align)
 
 
-def properties_of(content):
+def properties_of(content: bytes) -> Iterator[bytes]:
     """Each property of 64-bit ELF: its kind and its value."""
     at = 0
     while at < len(content):
@@ -161,17 +162,17 @@ def properties_of(content):
         at += 8 + (size + 7 & -8)
 
 
-def sums(object_):
+def sums(object_: Object) -> dict[str, str]:
     parts = {**object_.parts(), **object_.added()}
     return {name: hashlib.sha256(repr(tuple(part)).encode()).hexdigest() for name, part in parts.items()}
 
 
-def read_sums(path):
+def read_sums(path: str) -> dict[str, str]:
     with open(path) as file:
         return {name: total for total, name in (line.rstrip('\n').split('  ', 1) for line in file)}
 
 
-def difference(proved, ours):
+def difference(proved: Part, ours: Part) -> str:
     """The difference of a part, with an example."""
     if proved.head != ours.head:
         return f'proved {str(proved.head)[:200]}, ours {str(ours.head)[:200]}'
@@ -184,7 +185,7 @@ def difference(proved, ours):
     return f'proved has {lost[:2]}, ours {found[:2]}'
 
 
-def differences(proved, ours, describe):
+def differences(proved: dict, ours: dict, describe: Callable) -> Iterator[str]:
     """Yields a line for each part that is in only one object, or differs; `describe` describes the difference."""
     for name in {**proved, **ours}:
         if name not in ours or name not in proved:
@@ -203,7 +204,7 @@ def compare_sums(path: str, ours: str) -> list[str]:
     return list(differences(read_sums(path), sums(Object(ours)), lambda *_: 'other than what was proved'))
 
 
-def run(args):
+def run(args: list[str]) -> int:
     if len(args) == 2 and args[0] == '--sums':
         for name, total in sums(Object(args[1])).items():
             print(f'{total}  {name}')
@@ -222,7 +223,7 @@ def run(args):
     return 1 if found else 0
 
 
-def main():
+def main() -> int:
     try:
         return run(sys.argv[1:])
     except (OSError, ValueError, LookupError, struct.error) as fault:

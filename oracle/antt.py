@@ -1,12 +1,11 @@
 """Reads the definitions of the hashes in the crates' specs/ and evaluates them. Supports only the part of the language
-that they use. A definition is found by its name and the imports of its file. It becomes a Python function with the same
-operations."""
+that they use. A definition, found by its name and its file's imports, becomes a Python function of its operations."""
 import functools
 import glob
 import os
 import re
 import sys
-from typing import Any
+from typing import Any, Callable
 
 # Names that the definitions import from the library, with the library's semantics.
 
@@ -69,7 +68,7 @@ class Unreadable(Exception):
     """Raised for text outside the supported part of the language."""
 
 
-def tokens(text):
+def tokens(text: str) -> list[tuple[str, int]]:
     """Returns the tokens of a text with their positions. As in the language, a name ends at a space or bracket."""
     out = []
     for m in re.finditer(r"--[^\n]*|[()]|λ|[^\s()λ]+", text):
@@ -293,7 +292,7 @@ class Function:
         self.arity, self.body, self.given = arity, body, given
 
 
-def call(function, *arguments):
+def call(function: Function, *arguments: Any) -> Any:
     arguments = function.given + arguments
     if len(arguments) < function.arity:
         return Function(function.arity, function.body, arguments)
@@ -302,8 +301,7 @@ def call(function, *arguments):
 
 
 class Program:
-    """The entries and everything that they reach, compiled to Python functions. `run` can replace right-hand sides of a
-    definition's clauses."""
+    """The entries and everything that they reach, compiled to Python functions. `run` can replace right-hand sides."""
 
     def __init__(self, definitions, entries):
         self.definitions, self.ids, self.order, self.code, self.cached = definitions, {}, [], {}, {}
@@ -414,14 +412,14 @@ class Program:
         return self.cached[definition]
 
 
-def noted(function, definition, traced):
+def noted(function: Callable, definition: Definition, traced: Any) -> Callable:
     def with_note(*arguments):
         traced.add(definition)
         return function(*arguments)
     return with_note
 
 
-def with_deep_recursion(function, *arguments):
+def with_deep_recursion(function: Callable, *arguments: Any) -> Any:
     """Runs a function in a thread with a large stack, for recursion over 100,000 bytes."""
     import threading
     result = []

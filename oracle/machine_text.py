@@ -13,7 +13,6 @@ objects.
 It needs gcc, binutils (for 64-bit ARM too), clang and rustc, and installs missing packages with apt-get. One task needs
 an x86-64-v3 processor, and x86-64-v4 to test all instructions. The last line is "N passed, M failed"; the exit status
 is 1 if one failed. docs/VERIFICATION.md lists what to trust."""
-
 from checks.lib import tools
 from oracle.machine_code import cargo_tasks, tasks, self_tests
 from oracle.symbolic_terms import processes

@@ -135,12 +135,12 @@ def others(program, reached, definition, scope, local, word):
     return [other] if other in definition.module.names else []
 
 
-def all_changes(program):
+def all_changes(program: antt.Program) -> list["Change"]:
     reached = reachable(program)
     return [change for definition in program.order for change in changes_of(program, reached, definition)]
 
 
-def cases_by_definition(program, cases):
+def cases_by_definition(program: antt.Program, cases: list) -> dict[antt.Definition, list]:
     """Maps each definition to the test cases that reach it, the shortest first."""
     table = {}
     for case in sorted(cases, key=lambda case: case.length):
@@ -151,12 +151,12 @@ def cases_by_definition(program, cases):
     return table
 
 
-def reasons():
+def reasons() -> Reasons:
     """Returns the reasons of changes that change no value."""
     return Reasons(os.path.join(table.FOLDER, "equivalent_mutants.txt"))
 
 
-def outcome(program, cases, change):
+def outcome(program: antt.Program, cases: dict[antt.Definition, list], change: "Change") -> str:
     """Returns `"noticed"`, `"unnoticed"` or `"unreadable"` for a change."""
     definition = program.definitions.modules[change.path].definitions[change.name]
     sides = [[word for word, _ in right] for _, right in definition.clauses]

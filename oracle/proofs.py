@@ -121,7 +121,7 @@ def common_file(program):
     return text
 
 
-def files():
+def files() -> dict[str, str]:
     program = antt.Program(antt.Definitions(table.TOP, table.CRATES), table.ENTRIES)
     cases = proved_cases.choose()
     out = {("twox_words", "OutsideVectors"): common_file(program)}
@@ -132,7 +132,7 @@ def files():
     }
 
 
-def outdated():
+def outdated() -> dict[str, str]:
     """Returns the files that differ from this program's output, or are missing, with the right texts."""
     out = {}
     for path, text in files().items():

@@ -69,11 +69,11 @@ class CountedLength:
         return self.outcome is None
 
 
-def counted_lengths():
+def counted_lengths() -> list["CountedLength"]:
     return [CountedLength(length, value) for length, value in COUNTED]
 
 
-def choose():
+def choose() -> list[table.Case]:
     """Returns the test cases, in the table's order, without repetition."""
     cases = [table.Case(line) for line in table.lines()]
     found = {}

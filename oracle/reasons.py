@@ -25,7 +25,7 @@ class Reasons(dict):
         return [pattern for pattern in self if not any(pattern in self.of(text) for text in texts)]
 
 
-def is_fault(what, has_reason, must_fit=True):
+def is_fault(what: str, has_reason: bool, must_fit: bool = True) -> bool:
     """True if the outcome is a fault: an undetected change without a reason; a crash of the checker or a wrong rule;
     or, with `must_fit`, a detected change with a reason."""
     return (

@@ -7,7 +7,7 @@ FOLDER = os.path.dirname(os.path.abspath(__file__))
 __all__ = ["CRATES", "ENTRIES", "HASHES", "TOP"]
 
 
-def generated(start, length):
+def generated(start: int, length: int) -> memoryview:
     """Returns the bytes of a test case, as defined in oracle/vectors.c."""
     out, x = bytearray(), start
     for _ in range(length):
@@ -45,12 +45,12 @@ class Case:
         return self.ask(entries) == self.answer
 
 
-def lines():
+def lines() -> list[str]:
     with open(os.path.join(FOLDER, "vectors.txt"), encoding="utf-8") as file:
         return [line for line in file if not line.startswith("#")]
 
 
-def heading():
+def heading() -> str:
     """Returns the table's first line, which names the reference library's version."""
     with open(os.path.join(FOLDER, "vectors.txt"), encoding="utf-8") as file:
         return file.readline().lstrip("# ").strip()

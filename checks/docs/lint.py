@@ -10,7 +10,7 @@
   don't begin with "Whether" or "What";
 - each argument of a command has a help text, and no function of Python has more than 40 lines, except in the files of
   LONG_FUNCTIONS;
-- functions of Python that another module calls have types, except in the verifier (checks/docs/hints.py);
+- functions of Python that another module calls have types (checks/docs/hints.py);
 - identifiers of Python, shell, C and JavaScript have none of the words of checks/docs/identifiers.txt;
 - the pages of checks/docs/plain.py have sentences of at most 30 words;
 - docs/CONTRACTS.md names each file of `specs/`;
@@ -65,7 +65,6 @@ LONG_LINES = {
     'web/*.ts': 'not wrapped yet',
 }
 MOST_LINES = 40
-UNTYPED = ('oracle/*',)  # whose functions need no types: most take terms of several classes
 LONG_FUNCTIONS = ('oracle/*', 'checks/programs/cases*.py')
 FEATURES = ('random', 'xxhash32', 'xxhash64', 'xxhash3_64', 'xxhash3_128', 'std', 'alloc')
 
@@ -214,7 +213,7 @@ WRONG = {
     ],
     hints.functions_without_types: [
         ('wrong.py', 'import wrong\n\n\ndef f(a) -> None:\n    wrong.f(a)\n'),
-        ('wrong.py', 'from wrong import f\n\n\ndef f(*, a: int):\n    pass\n'),
+        ('oracle/wrong.py', 'from wrong import f\n\n\ndef f(*, a: int):\n    pass\n'),
         ('wrong.py', 'from .wrong import f\n\n\ndef f(**a) -> None:\n    pass\n'),
     ],
     long_lines: [(name, 'x' * 121) for name in ('wrong.py', 'wrong.sh', 'wrong.c', 'wrong.js', 'oracle/wrong.py')],
@@ -339,8 +338,7 @@ def check_code(report, every):
     report.attempt('black', is_clean, black, python)
     report.attempt('mypy', is_clean, mypy, typed(python))
     report.attempt('help of arguments', is_clean, arguments_without_help, typed(python))
-    shared = [path for path in typed(python) if not is_one_of(path, UNTYPED)]
-    report.attempt('types of shared functions', is_clean, hints.functions_without_types, shared)
+    report.attempt('types of shared functions', is_clean, hints.functions_without_types, typed(python))
     report.attempt('lengths of functions', is_clean, long_functions, python)
     report.attempt('rustfmt', is_clean, rustfmt, rust)
     report.attempt('clippy', is_clean, clippy, roots)

@@ -8,6 +8,7 @@ bytes to one that represents N plus its length. Its r, its tail and its stripes 
 all else is symbolic. A digest returns the definition's value and leaves the state unchanged."""
 import collections
 import functools
+from typing import Iterator
 
 from oracle.symbolic_terms import (LONGEST, Bytes, Input, NotShown, Piece, Request, at_most, given, is_same,
                                    is_same_number, lifted, minus, plus, same, seed_symbol, suppositions, times,
@@ -23,7 +24,7 @@ from .memory import WordMemory
 Update = collections.namedtuple("Update", "r s fills further more")
 
 
-def updates(hash_name):
+def updates(hash_name: str) -> Iterator[Update]:
     stripe, most = int(hash_name) // 2, UNROLLED[hash_name]
     for r in range(stripe):
         yield from (Update(r, s, False, 0, False) for s in range(r, stripe))
@@ -32,14 +33,14 @@ def updates(hash_name):
                 yield from (Update(r, s, r > 0, further, more) for more in (False, True) if r or further or more)
 
 
-def length_of(one, hash_name, turns):
+def length_of(one: Update, hash_name: str, turns: int) -> int:
     """Returns the length of an update's chunk, with `turns` turns of the unrolled loop."""
     stripe = int(hash_name) // 2
     whole = int(one.fills) + one.further + (UNROLLED[hash_name] * turns if one.more else 0)
     return stripe * whole + one.s - one.r
 
 
-def left_out(hash_name):
+def left_out(hash_name: str) -> list[tuple[int, int]]:
     """Returns the chunks (r, length) that no update covers, for lengths up to 3 turns of the unrolled loop."""
     most = int(hash_name) // 2 * UNROLLED[hash_name]
     found = {(one.r, length_of(one, hash_name, turns)) for one in updates(hash_name) for turns in range(1, 4)}

@@ -3,14 +3,15 @@ refusals. Each function runs a processor, returns its number of cases, and raise
 import functools
 import itertools
 import random
+from typing import Iterator
 
-from oracle.symbolic_terms import (LONGEST_SECRET, Bytes, Input, NotShown, Request, at_most, definition, given, is_same,
-                                   minus, nodes, plus, symbol, times, variable)
+from oracle.symbolic_terms import (LONGEST_SECRET, Bytes, Input, NotShown, Request, Value, at_most, definition, given,
+                                   is_same, minus, nodes, plus, symbol, times, variable)
 
 from . import layouts, one_shots, streams
 from .memory import Numbers, OnlyRead, WordMemory
 from .streams import ERROR, OK, contents, digest, expect_answer, expect_same, new_state, reset, update
-from .values import address, arithmetic, bits, low
+from .values import Cpu, address, arithmetic, bits, low
 
 WIDTHS = {"XXH32": 32, "XXH64": 64, "XXH128": 128}
 AT, SHORTEST = layouts.STATE, 136       # the layout of XXH3's states; bytes of a secret
@@ -21,7 +22,7 @@ MOST_NODES = 500_000                    # between two cases
 LIMITS = {32: (1 << 32) - 1, 64: (1 << 64) - 1}
 
 
-def expect(what, ours, theirs):
+def expect(what: str, ours: Value, theirs: Value) -> None:
     if not is_same(ours, theirs):
         raise NotShown(f"{what}: another value")
 
@@ -33,7 +34,7 @@ def parts_of(width, name):
     return [(symbol(f"{name}{k} of {width}", min(width, 64)), min(width, 64)) for k in range(max(1, width // 64))]
 
 
-def canonical_forms(cpu):
+def canonical_forms(cpu: Cpu) -> int:
     """Tests the conversion of a hash to big-endian bytes and back. The bytes are unaligned."""
     for name, width in WIDTHS.items():
         parts, size = parts_of(width, "hash"), width // 8
@@ -47,7 +48,7 @@ def canonical_forms(cpu):
     return 2 * len(WIDTHS)
 
 
-def is_equal(cpu):
+def is_equal(cpu: Cpu) -> int:
     """Tests equal hashes, and hashes that differ in the low word, in the high word, or in both."""
     low_word, high_word = symbol("low", 64), symbol("high", 64)
     for differs in ((), (0,), (1,), (0, 1)):
@@ -59,7 +60,7 @@ def is_equal(cpu):
     return 4
 
 
-def compare(cpu):
+def compare(cpu: Cpu) -> int:
     """Tests each word of the first hash above, equal to, and below the second hash's word."""
     order = {1: 1, 0: 0, -1: LIMITS[32]}
     for high, under in itertools.product(order, order):
@@ -74,7 +75,7 @@ def compare(cpu):
     return len(order) ** 2
 
 
-def compare_in_one_place(cpu):
+def compare_in_one_place(cpu: Cpu) -> int:
     """Tests a hash against itself, and two hashes that overlap in one word, for each order of the three values."""
     order, count = {1: 1, 0: 0, -1: LIMITS[32]}, 0
     a, d, e = (variable(name) for name in ("a", "d", "e"))
@@ -90,7 +91,7 @@ def compare_in_one_place(cpu):
     return count
 
 
-def version(cpu):
+def version(cpu: Cpu) -> int:
     rax, _ = cpu.call("XXH_versionNumber")
     expect("XXH_versionNumber", low(rax, 32), 801)
     return 1
@@ -98,7 +99,7 @@ def version(cpu):
 
 # ---- states
 
-def copies(cpu):
+def copies(cpu: Cpu) -> int:
     """Tests that a copy has all bytes of its original, and that the original is unchanged."""
     for hash_name in ("32", "64", "3-64"):
         original, other = new_state(cpu, hash_name), new_state(cpu, hash_name)
@@ -114,7 +115,7 @@ def mark_of(hash_name):
     return (layouts.PLAIN[hash_name].marked, 4) if one_shots.is_plain(hash_name) else (AT.mark, 8)
 
 
-def forgotten(cpu):
+def forgotten(cpu: Cpu) -> int:
     """Tests that a freed state is refused, also with a caller's secret, and that `forget` changes only the mark."""
     for hash_name in ("32", "64", "3-64", "3-128"):
         state, (at, n) = new_state(cpu, hash_name), mark_of(hash_name)
@@ -132,13 +133,13 @@ def forgotten(cpu):
     return 6
 
 
-def callers_secret():
+def callers_secret() -> tuple[Input, list[Value]]:
     """Returns a secret of any length that isn't too short, with the facts of this length."""
     length = plus(64, times(8, variable("q")), variable("u"))
     return Input("s", length), [at_most(variable("u"), 7), minus(variable("q"), 9), at_most(length, LONGEST_SECRET)]
 
 
-def refused(cpu, hash_name, state, secret=None):
+def refused(cpu: Cpu, hash_name: str, state: WordMemory, secret: Input | None = None) -> None:
     """Tests that an update of any length and a digest of memory without a valid state return an error and 0, and change
     nothing. With a secret these are the calls for a state with a secret of the caller."""
     before, n, state.secret = contents(state), variable("n"), secret
@@ -156,9 +157,8 @@ def forms():
         yield hash_name, layouts.CALLERS_MARKS, *callers_secret(), variable("q")
 
 
-def without_mark(cpu):
-    """Tests memory with any content, and any word in the mark's place that isn't a mark: all below the first mark,
-    between two, and above the last."""
+def without_mark(cpu: Cpu) -> int:
+    """Tests memory with any content, and words that aren't a mark in its place: below the first, between, above."""
     count, v = 0, variable("v")
     plain = [(name, [(at.first_mark, at.capacity)], None, []) for name, at in layouts.PLAIN.items()]
     for hash_name, marks, secret, facts in [*plain, *((name, [(mark, 1) for mark in sorted(marks)], secret, facts)
@@ -173,7 +173,7 @@ def without_mark(cpu):
     return count
 
 
-def invalid_fields(at, q):
+def invalid_fields(at: layouts.Layout, q: Value) -> Iterator[tuple[list[tuple[int, Value]], list[Value]]]:
     """Yields the invalid fields of streams of XXH3 of a layout, with q stripes in a block: (offset, value), .., with
     facts: a position behind the secret's end, more buffered bytes than the buffer holds, or none although the total
     isn't 0. All other fields are any words."""
@@ -188,7 +188,7 @@ def invalid_fields(at, q):
             yield [(at.current_stripe, place), *fields], [*of_place, *of_fields]
 
 
-def out_of_range(cpu):
+def out_of_range(cpu: Cpu) -> int:
     """Tests states of XXH3 with a mark and fields that no call leaves, and secrets of the caller that are too short."""
     count, v = 0, variable("v")
     for hash_name, marks, secret, of_secret, q in forms():
@@ -205,7 +205,7 @@ def out_of_range(cpu):
     return count
 
 
-def refused_resets(cpu):
+def refused_resets(cpu: Cpu) -> int:
     """Tests that a reset refuses a secret of each length that is too short. The state stays unchanged."""
     for variant in ("secret", "both"):
         with given(at_most(variable("v"), SHORTEST - 1)):
@@ -218,7 +218,7 @@ def refused_resets(cpu):
 
 # ---- secrets
 
-def short_secrets(cpu, hash_name):
+def short_secrets(cpu: Cpu, hash_name: str) -> int:
     """Tests one-shots of each length with a secret of each length that is too short. The result is 0 if the secret is
     needed: always without a seed, and above 240 bytes with a seed. Otherwise it is the seed's hash."""
     entries, n, size = definition.program().run(), variable("n"), variable("v")
@@ -231,7 +231,7 @@ def short_secrets(cpu, hash_name):
     return len(cases)
 
 
-def null_pointers(cpu):
+def null_pointers(cpu: Cpu) -> int:
     """Tests that an input and a secret of length 0 may be null."""
     entries, count = definition.program().run(), 0
     for hash_name, variant in (("32", "seed"), ("64", "seed"), *((name, variant) for name in ("3-64", "3-128")
@@ -247,7 +247,7 @@ def null_pointers(cpu):
     return count
 
 
-def in_one_place(cpu):
+def in_one_place(cpu: Cpu) -> int:
     """Tests one-shots of concrete messages and secrets that overlap or are equal. The tasks with symbols show that no
     branch depends on their addresses."""
     entries, count, rng = definition.program().run(), 0, random.Random(3)
@@ -267,7 +267,7 @@ def in_one_place(cpu):
     return count
 
 
-def updates_of_nothing(cpu):
+def updates_of_nothing(cpu: Cpu) -> int:
     """Tests that a null chunk of length 0, before, between and after other chunks, leaves the digest unchanged."""
     entries, count = definition.program().run(), 0
     for hash_name, variant, size in (("32", "seed", None), ("64", "seed", None), ("3-64", "default", None),
@@ -284,7 +284,7 @@ def updates_of_nothing(cpu):
     return count
 
 
-def derived_secret(cpu):
+def derived_secret(cpu: Cpu) -> int:
     """Tests the 192 bytes of the secret derived from a seed."""
     entries = definition.program().run()
     for seed in (symbol("seed64", 64), 0):
@@ -296,7 +296,7 @@ def derived_secret(cpu):
     return 2
 
 
-def generated_secrets(cpu, asked):
+def generated_secrets(cpu: Cpu, asked: list[tuple[int, int]]) -> int:
     """Tests secrets of given sizes, generated from seeds of given lengths. A refusal of a small size writes nothing."""
     program = definition.program(("twox_c",), ("generated_secret",))
     entries = program.run()
@@ -314,7 +314,7 @@ def generated_secrets(cpu, asked):
     return len(asked)
 
 
-def some_secrets(cpu):
+def some_secrets(cpu: Cpu) -> int:
     return generated_secrets(cpu, [(SHORTEST - 1, 3), (SHORTEST, 0), (143, 3), (200, 17), (256, 241)])
 
 

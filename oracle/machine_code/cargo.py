@@ -5,7 +5,7 @@ Each call of an XXH3 stream takes the secret as an argument. The stream begins w
 import os
 import re
 
-from oracle.symbolic_terms import TOP, NotShown, Unsupported, is_same
+from oracle.symbolic_terms import TOP, NotShown, Unsupported, is_same, nodes
 
 from . import layouts
 from .object_contents import HIDDEN, WEAK, Loaded
@@ -13,7 +13,7 @@ from .memory import WordMemory
 from .objects import TEXT, Program
 from .one_shots import is_plain
 from .processor import Processor
-from .values import address, joined, low
+from .values import Cpu, address, joined, low
 
 FOLDER = os.path.join(TOP, "rust", "asm")
 NAMED = re.compile(r"twox_rust_\d+_(\w+?)(?:_v[34])?|(.+)\.i\d+(?:_v[34])?|twox_rust_(interface)(?:_v[34])?")
@@ -47,14 +47,14 @@ class CargoProgram(OfCargo, Program):
         return TEXT + plain(section[len(TEXT) :])
 
 
-def plain(name):
+def plain(name: str) -> str:
     found = NAMED.fullmatch(name)
     if not found:
         raise Unsupported(f"the name {name}")
     return found[1] or found[2] or found[3]
 
 
-def export_name(hash_name):
+def export_name(hash_name: str) -> str:
     return "xxh" + hash_name.replace("-", "_")
 
 
@@ -74,7 +74,7 @@ class Value(WordMemory):
         return [self.load(8 * k, 8) for k in range(2)]
 
 
-def call_into(cpu, hash_name, name, *arguments):
+def call_into(cpu: Cpu, hash_name: str, name: str, *arguments: nodes.Value) -> tuple[nodes.Value, nodes.Value]:
     """Returns (code, value) of a call that may be refused. A 64-bit value is returned in a register. A 128-bit value is
     written to memory, and a refusal writes nothing."""
     if hash_name != "3-128":
@@ -94,7 +94,7 @@ def call_into(cpu, hash_name, name, *arguments):
     return code, 0
 
 
-def expect_code(name, code, expected):
+def expect_code(name: str, code: nodes.Value, expected: int) -> None:
     if not is_same(code, expected):
         raise NotShown(f"{name}: the code {code} and not {expected}")
 
@@ -126,7 +126,7 @@ class ForCargo:
         expect_code(name, low(cpu.call(name, address(state), *secret, *piece)[0], 32), DONE)
 
 
-def write_of(hash_name):
+def write_of(hash_name: str) -> str:
     return "xxh32_write" if is_plain(hash_name) else "xxh3_write"
 
 

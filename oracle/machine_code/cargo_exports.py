@@ -1,20 +1,22 @@
 """Lists the exports of the cargo crate's sources with their tasks, and finds functions shared by two sources."""
 import re
+from typing import Collection, Mapping
 
-from .cargo import export_name
+from .cargo import OfCargo, export_name
+from .objects import Program
 
 BEGIN = "cargo: "                 # beginning of each task's title
 WIDEST = 64                       # bytes that an instruction reads, at most
 
 
-def shown_by():
+def shown_by() -> dict[str, str]:
     """Maps each export to the beginning of a task's title."""
     out = {"interface": "the number of the interface", "xxh32_write": "pieces of XXH32", "xxh3_write": "pieces of XXH3",
            **{f"{export_name(name)}_long": f"XXH{name}, secret" for name in ("3-64", "3-128")}}
     return {name: BEGIN + title for name, title in out.items()}
 
 
-def exports_left_out(texts, titles):
+def exports_left_out(texts: Mapping[str, OfCargo], titles: Collection[str]) -> tuple[int, list[str]]:
     known, bad = shown_by(), []
     for name, program in texts.items():
         bad += [f"{name}: {export}" for export in program.exports
@@ -25,7 +27,7 @@ def exports_left_out(texts, titles):
 
 # ---- functions that are equal in another source
 
-def shape(program, section):
+def shape(program: Program, section: str) -> tuple[bytes, list]:
     """Returns a section's bytes, and the targets of its instructions outside of it."""
     code = program.sections[section]
     led = [(at, led_to(program, x)) for at, x in sorted(code.items()) if x.target and x.target[0] != section]
@@ -46,7 +48,7 @@ def bare(section):
     return re.sub(r"\.i\d+(_v[34])?$", "", section)
 
 
-def shared(program, other):
+def shared(program: Program, other: Program) -> set[str]:
     """Returns the functions that equal another source's byte for byte, with everything that they reach."""
     found = {name: place for name, place in program.functions.items() if other.functions.get(name, (0, 1))[1] == 0}
     shapes = {name: shape(program, place[0]) for name, place in found.items()}

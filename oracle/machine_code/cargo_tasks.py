@@ -1,6 +1,7 @@
 """Chooses the tasks of oracle/machine-text on the cargo crate's sources for x86-64, rust/asm. Some functions of the
 sources for x86-64-v3 and v4 are c/asm's, byte for byte, and have the same tasks."""
 import functools
+from typing import Callable, Iterable, Iterator, Mapping
 
 from oracle.symbolic_terms import comparison
 
@@ -25,14 +26,14 @@ SECRETS = 136, 192
 ANY_SECRET = [f"{name}:secret" for name in cargo_calls.HASHES]
 
 
-def programs():
+def programs() -> dict[str, CargoProgram]:
     return {f"cargo's {name}": assembled(f"{FOLDER}/{name}.s", V1, functools.partial(CargoProgram, name))
             for name in NAMES}
 
 
 # ---- the tasks
 
-def choose(texts, like, is_all):
+def choose(texts: dict[str, CargoProgram], like: dict[str, tasks.Program], is_all: bool) -> list[tasks.Task]:
     """Returns the tasks on `texts`; `like` has c/asm's sources."""
     processors = tasks.makers(texts)
     pieces = piece_tasks(tasks.before_v4(processors), is_all, SOME_UPDATES)
@@ -43,13 +44,13 @@ def choose(texts, like, is_all):
     return out
 
 
-def with_begin(found, begin=BEGIN):
+def with_begin(found: Iterable[tasks.Task], begin: str = BEGIN) -> Iterator[tasks.Task]:
     for task in found:
         task.title = begin + task.title
         yield task
 
 
-def long_input_tasks(processors, is_all, some=LENGTHS):
+def long_input_tasks(processors: Mapping[str, Callable], is_all: bool, some: list = LENGTHS) -> Iterator[tasks.Task]:
     """Yields the tasks of single lengths. With a secret of 136 bytes x86-64-v4 runs the code of x86-64-v3."""
     for hash_name in cargo_calls.HASHES:
         for size in SECRETS:
@@ -59,12 +60,12 @@ def long_input_tasks(processors, is_all, some=LENGTHS):
             yield tasks.compared(asked, comparison.title_of(*algorithm), comparison.requests(*algorithm, lengths))
 
 
-def piece_tasks(processors, is_all, some=tasks.SOME_UPDATES):
+def piece_tasks(processors: Mapping, is_all: bool, some: int = tasks.SOME_UPDATES) -> Iterator[tasks.Task]:
     """Returns the tasks of XXH32 chunks of any length: all cases, in parts, or a sample."""
     return tasks.plain_stream_tasks(processors, is_all, some, "pieces of XXH{}", ("32",))
 
 
-def xxh3_tasks(processors, is_all, like=LIKE):
+def xxh3_tasks(processors: Mapping[str, Callable], is_all: bool, like: tuple = LIKE) -> Iterator[tasks.Task]:
     """Yields the tasks of XXH3 chunks. With --all c/asm's tasks cover functions of LIKE that take stripes."""
     left_out = [name for name in processors if name.endswith(like)] if is_all else []
     for task in tasks.xxh3_tasks(processors, is_all, cargo_streams.PROOFS):
@@ -72,7 +73,7 @@ def xxh3_tasks(processors, is_all, like=LIKE):
             yield task
 
 
-def expect_shared(program, other):
+def expect_shared(program: CargoProgram, other: tasks.Program) -> tuple[int, list[str]]:
     """Returns the number of shared functions, and the missing ones that take stripes or are for x86-64-v4."""
     found = shared(program, other)
     bad = [f"{name} isn't" for name in program.functions
@@ -80,12 +81,12 @@ def expect_shared(program, other):
     return len(found), bad
 
 
-def expect_code_of_v3(program, other):
+def expect_code_of_v3(program: CargoProgram, other: tasks.Program) -> tuple[int, list[str]]:
     left = {*program.exports} - {*WIDENED} - shared(program, other)
     return len(program.exports) - len(WIDENED) - len(left), sorted(left)
 
 
-def refusal_tasks(of):
+def refusal_tasks(of: Callable[..., tasks.Task]) -> Iterator[tasks.Task]:
     """Yields the tasks of refusals: `of` makes a task of a title, a number of cases and a function."""
     yield of("the number of the interface", 1, cargo_calls.interface)
     yield of("a message and a secret in one place", 6, calls.in_one_place)
@@ -96,7 +97,7 @@ def refusal_tasks(of):
     yield of("streams of XXH3: secrets that are too short", 2, cargo_calls.secrets_of_streams)
 
 
-def call_tasks(texts, processors, like):
+def call_tasks(texts: dict[str, CargoProgram], processors: Mapping, like: dict[str, tasks.Program]) -> list[tasks.Task]:
     return [*(tasks.counted(f"{BEGIN}functions of {name} that are c/asm's, byte for byte", LEAST_SHARED,
                             expect_shared, texts[f"cargo's {name}"], like[name]) for name in LIKE),
             tasks.counted(f"{BEGIN}exports of {V4} that have the code of {V3}", EXPORTS - len(WIDENED),

@@ -1,8 +1,9 @@
 """Checks that the cases of the streams of XXH3 are complete: many points, each a concrete state and chunk, must be in a
 case. Only the polynomials and facts that a case's proof uses are taken from it."""
 import random
+from typing import Iterable, Iterator
 
-from oracle.symbolic_terms import names_of, plus, value_at
+from oracle.symbolic_terms import Value, names_of, plus, value_at
 
 from . import xxh3_updates
 
@@ -11,7 +12,7 @@ EDGES = 0, 1, 2, 3, 4, 7, 8, 16, 17, 32, 33, 63, 64, 65, 127, 128, 448, 449, 511
 FAR_OFF = 31_744, 32_000, 100_000, 1 << 40
 
 
-def points(count, proof):
+def points(count: int, proof: xxh3_updates.Xxh3Updates) -> Iterator[tuple[int, ...]]:
     """Yields points (q, u, b, j, f, L): edges and random numbers, the same each time."""
     rng = random.Random(5)
     stripes = [proof.q] if isinstance(proof.q, int) else [*STRIPES, *LONG_BLOCKS]
@@ -27,13 +28,13 @@ def points(count, proof):
         yield q, u, b, j, f, min(L, proof.longest_piece)
 
 
-def states(count, proof):
+def states(count: int, proof: xxh3_updates.Xxh3Updates) -> Iterator[tuple[int, ...]]:
     for q, u, b, j, f, _ in points(count, proof):
         if not (b or j) or 64 * (q * b + j) + f > xxh3_updates.SHORT:
             yield q, u, b, j, f
 
 
-def variables(q, u, b, j, f, L=0):
+def variables(q: int, u: int, b: int, j: int, f: int, L: int = 0) -> dict[str, int]:
     """Returns the values of the cases' variables at a point."""
     r = -f % 64
     g, left = (f + r) // 64, L - r
@@ -44,14 +45,14 @@ def variables(q, u, b, j, f, L=0):
             "e": e, "left": left - 64 * n, "more": L - 33, "w": L - 65, "rest": 0}
 
 
-def has(point, facts, values):
+def has(point: dict[str, int], facts: list[Value], values: list[tuple[Value, int]]) -> bool:
     """True if a case contains a point: its facts hold there, and its polynomials have the given values."""
     names = names_of(*facts, *(x for x, _ in values))
     return all(point.get(name, -1) >= 0 for name in names) and all(value_at(x, point) == n for x, n in values) and \
         all(value_at(fact, point) >= 0 for fact in facts)
 
 
-def without_update(cases, proof, count):
+def without_update(cases: Iterable, proof: xxh3_updates.Xxh3Updates, count: int) -> Iterator[tuple[int, ...]]:
     """Yields the points that no update contains."""
     cases = list(cases)
     for q, u, b, j, f, L in points(count, proof):
@@ -65,7 +66,7 @@ def without_update(cases, proof, count):
             yield q, u, b, j, f, L
 
 
-def without_digest(cases, proof, count):
+def without_digest(cases: Iterable, proof: xxh3_updates.Xxh3Updates, count: int) -> Iterator[tuple[int, ...]]:
     cases = list(cases)
     for q, u, b, j, f in states(count, proof):
         g = max(0, f - 1) // 64
@@ -75,7 +76,7 @@ def without_digest(cases, proof, count):
             yield q, u, b, j, f
 
 
-def of_stripes(b, j, n):
+def of_stripes(b: int, j: int, n: int) -> Iterator[dict[str, int]]:
     """Yields further variables for taken stripes of blocks of 16: by fours, and by blocks."""
     for front, unit in (-j % 4, 4), (-j % 16, 16):
         at = (j + front) % 16
@@ -83,7 +84,7 @@ def of_stripes(b, j, n):
         yield {"a": at // 4, "D": D, "e": e // 4 if unit == 4 else (n - front) % 16}
 
 
-def without_taken(cases, proof, names, count):
+def without_taken(cases: Iterable, proof: xxh3_updates.Xxh3Updates, names: list, count: int) -> Iterator[tuple]:
     """Yields the points of taken stripes that no case contains, for any number of stripes and for many."""
     cases = list(cases)
     for q, u, b, j, f, L in points(count, proof):
@@ -101,7 +102,7 @@ def without_taken(cases, proof, names, count):
                 yield name, q, u, b, j, n
 
 
-def without_one_shot(cases, facts, count):
+def without_one_shot(cases: Iterable, facts: list[Value], count: int) -> Iterator[tuple[int, int]]:
     """Yields lengths (q, n) that no case contains, for blocks of q stripes, q not 16."""
     cases, rng = list(cases), random.Random(6)
     while count:
@@ -117,11 +118,11 @@ def without_one_shot(cases, facts, count):
                 yield q, n
 
 
-def sum_of(parts):
+def sum_of(parts: list[xxh3_updates.Part]) -> Value:
     return plus(*(part.turns for part in parts))
 
 
-def left_out(proof, count):
+def left_out(proof: xxh3_updates.Xxh3Updates, count: int) -> list[tuple]:
     """Returns the points that no case contains: of updates, digests, and functions that take stripes."""
     taken = [(xxh3_updates.TAKE.name, 0), (xxh3_updates.TAKE_MANY.name, xxh3_updates.MANY)]
     taken += [(xxh3_updates.TAKE_WIDENED.name, xxh3_updates.BLOCK)] * proof.is_widened()

@@ -151,7 +151,7 @@ class Loader(importlib.abc.MetaPathFinder, importlib.abc.SourceLoader):
 # ---- planted faults
 
 
-def every_text():
+def every_text() -> list:
     """Returns all planted faults, in a fixed order."""
     from oracle.machine_code import (
         cargo_planted,
@@ -230,7 +230,7 @@ def unplanted():
         return dict(line.rstrip("\n").split(" | ") for line in file if line.strip() and not line.startswith("#"))
 
 
-def report(is_all, jobs=1):
+def report(is_all: bool, jobs: int = 1) -> tuple[int, list[str]]:
     """Returns the number of tested checks, and the messages on the undetected ones. Without `is_all` tests a few."""
     where = {module: checks_of(module) for module in MODULES}
     known = {key: (path_of(module), *lines) for module, found in where.items() for key, lines in found.items()}

@@ -5,6 +5,7 @@ import re
 import struct
 import subprocess
 import tempfile
+from typing import Any, Iterator
 
 from oracle.symbolic_terms import Unsupported
 
@@ -22,7 +23,7 @@ assembled = {}
 ARM_CONDITIONS = {name: k for k, name in enumerate("eq ne cs cc mi pl vs vc hi ls ge lt gt le".split())}
 
 
-def lines_of(program):
+def lines_of(program: Any) -> Iterator[tuple[str, int, bytes, str, bool]]:
     """Yields (section, offset, bytes, text, is relocated) of each instruction."""
     for section, lines in program.listing.items():
         for at, raw, text in lines:
@@ -30,7 +31,7 @@ def lines_of(program):
                    program.is_relocated(section, at, at + len(raw)))
 
 
-def expect_bytes(program):
+def expect_bytes(program: Any) -> None:
     """Refuses an instruction whose bytes differ from those of its printed text."""
     arch, led = ("x86-64", led_on_x86) if program.object.machine == X86_64 else ("aarch64", led_on_arm)
     alone, bad = [], []
@@ -67,7 +68,7 @@ def assembled_alone(texts, arch):
 
 # ---- jumps and instructions that do nothing
 
-def led_on_x86(at, raw, text, is_relocated):
+def led_on_x86(at: int, raw: bytes, text: str, is_relocated: bool) -> bytes | None:
     """Returns the required bytes of a jump, call or nop, or None for other instructions, which are assembled again."""
     mnemonic, *rest = text.split()
     if "nop" in text:
@@ -87,7 +88,7 @@ def led_on_x86(at, raw, text, is_relocated):
     return long + struct.pack("<i", distance)
 
 
-def led_on_arm(at, raw, text, is_relocated):
+def led_on_arm(at: int, raw: bytes, text: str, is_relocated: bool) -> bytes | None:
     """The same for 64-bit ARM. If a linker inserts the distance, its bits are 0."""
     mnemonic, *operands = re.split(r"[ ,]+", re.sub(r" <[^>]*>", "", text))
     if not re.fullmatch(r"bl?|b\.\w\w|cbn?z|tbn?z|adrp", mnemonic):

@@ -7,11 +7,12 @@ secrets). The sources have separate paths from 31,744 bytes on. `left_out` compu
 import collections
 import functools
 import itertools
+from typing import Iterator
 
 from oracle import specs
-from oracle.symbolic_terms import (LONGEST, LONGEST_SECRET, REFUSALS, Bytes, Input, NotShown, Poly, Request, at_most,
-                                   definition, given, minus, nodes, parts_of, plus, seed_symbol, suppositions, times,
-                                   value_at, variable)
+from oracle.symbolic_terms import (LONGEST, LONGEST_SECRET, REFUSALS, Bytes, Input, NotShown, Poly, Request, Value,
+                                   at_most, definition, given, minus, nodes, parts_of, plus, seed_symbol, suppositions,
+                                   times, value_at, variable)
 
 from . import one_shots
 from .induction import Family, Loops
@@ -31,7 +32,7 @@ Case = collections.namedtuple("Case", "length stripes facts others rest", defaul
 
 # ---- the cases
 
-def plain_cases(hash_name):
+def plain_cases(hash_name: str) -> Iterator[Case]:
     stripe, turns = int(hash_name) // 2, variable(TURNS)
     for c in range(UNROLLED[hash_name]):
         for r in range(stripe):
@@ -39,7 +40,7 @@ def plain_cases(hash_name):
             yield Case(plus(times(stripe, stripes), r), stripes, [minus(turns, LEAST[hash_name])], {})
 
 
-def xxh3_case(blocks, J, *facts, is_near=False):
+def xxh3_case(blocks: Value, J: int, *facts: Value, is_near: bool = False) -> Case:
     """Returns a case of `blocks` blocks and J stripes, below PREFETCHED bytes if `is_near`."""
     stripes, t = plus(times(DERIVED, blocks), J), variable("t")
     n = plus(times(64, stripes), t, 1)
@@ -47,19 +48,19 @@ def xxh3_case(blocks, J, *facts, is_near=False):
     return Case(n, stripes, [at_most(t, 63), *of_n, *facts], {"t": range(64)})
 
 
-def derived_cases():
+def derived_cases() -> Iterator[Case]:
     turns = variable(TURNS)
     for J in range(DERIVED):
         yield xxh3_case(turns, J, minus(turns, 1), at_most(turns, PREFETCHED // 1024 - 1), is_near=True)
         yield xxh3_case(turns, J, minus(turns, FAR // DERIVED))
 
 
-def cases(algorithm):
+def cases(algorithm: str) -> list[Case]:
     """Returns the cases of XXH32, of XXH64, or of XXH3 without a secret argument."""
     return list(plain_cases(algorithm) if algorithm in UNROLLED else derived_cases())
 
 
-def of_secret():
+def of_secret() -> list[Case]:
     """Returns the cases above 240 bytes with a secret of 192 to 199 bytes. The sources test for a length of 192."""
     found = [xxh3_case(0, 3, minus(variable("t"), 48)), *(xxh3_case(0, J) for J in range(4, DERIVED - 1))]
     # x86-64-v4 tests if there is a whole block.
@@ -68,13 +69,13 @@ def of_secret():
     return [with_rest(case, rest) for case in found for rest in (False, True)]
 
 
-def of_secret_by_turns():
+def of_secret_by_turns() -> list[Case]:
     """Returns the cases of `of_secret` in which x86-64-v4 has no separate path, or that have a variable number of
     blocks. Its other lengths, with 192 bytes and up to a block and a little more, are tested one by one."""
     return [case for case in of_secret() if isinstance(case.rest, Poly) or (TURNS,) in parts_of(case.length)]
 
 
-def with_rest(case, rest):
+def with_rest(case: Case, rest: bool) -> Case:
     """Returns a case with a secret longer by 0 bytes, or by 1 to 7 with `rest`, than its stripes need."""
     u = variable("u")
     facts, others = [*case.facts, minus(u, 1), at_most(u, 7)], {**case.others, "u": [1]}
@@ -83,7 +84,7 @@ def with_rest(case, rest):
 
 # ---- completeness of the cases
 
-def turns_of(case, point):
+def turns_of(case: Case, point: dict[str, int]) -> tuple[int, int | None]:
     """Returns the least and the greatest number of turns (None: any) in a case, at values of the other variables."""
     least, ends = 0, []
     for fact in case.facts:
@@ -111,7 +112,7 @@ def spans(found, period):
     return out
 
 
-def left_out(found, first, period):
+def left_out(found: list[Case], first: int, period: int) -> list[int]:
     """Returns the lengths from `first` on that no case contains, one of each gap."""
     out, known = [], spans(found, period)
     for rest in range(period):

@@ -1,16 +1,19 @@
 """Lists the exports of the sources for C with the beginnings of the titles of tasks that prove them. A source with
 another name, or without one of these, fails."""
+from typing import Collection
+
 from oracle.symbolic_terms import NotShown
 
 from . import streams
 from .cargo_exports import shared
+from .objects import Loaded, Program
 from .one_shots import NAMES, WAYS, is_plain, name_of
 
 SAME = "names of another's code"
 STREAMS, FORGET = "streams", "freed states"
 
 
-def shown_by(program=None):
+def shown_by(program: Loaded | None = None) -> dict[str, str]:
     """Maps each name to the beginning of a task's title."""
     out = {"XXH_versionNumber": "the version", "XXH128_isEqual": "equal hashes", "XXH128_cmp": "the order of hashes",
            "proved_XXH3_generateSecret": "made secrets", "XXH3_generateSecret_fromSeed": "the derived secret"}
@@ -28,9 +31,8 @@ def shown_by(program=None):
     return {**out, **dict.fromkeys(twins(program), SAME)}
 
 
-def twins(program=None):
-    """Maps names to the name with the same code: calls with two names, and `_dispatch` variants. On ARM no C file wraps
-    these."""
+def twins(program: Loaded | None = None) -> dict[str, str]:
+    """Maps names to the name with the same code: calls with two names, and `_dispatch` variants, unwrapped on ARM."""
     out = {"XXH128": "XXH3_128bits_withSeed"}
     for name in ("XXH3_64bits", "XXH3_128bits"):
         for way in ("", "_withSeed", "_withSecret"):
@@ -40,7 +42,7 @@ def twins(program=None):
     return out
 
 
-def expect_all(program, titles):
+def expect_all(program: Loaded, titles: Collection[str]) -> int:
     """Checks that the source exports exactly the names of the table, and that each has its task."""
     known = shown_by(program)
     for name in sorted({*known, *program.exports}):
@@ -53,7 +55,7 @@ def expect_all(program, titles):
     return len(known)
 
 
-def expect_twins(program):
+def expect_twins(program: Loaded) -> int:
     """Checks that each twin has the same instructions as the other name."""
     for name, other in twins(program).items():
         if code_of(program, name) != code_of(program, other):
@@ -63,7 +65,7 @@ def expect_twins(program):
 
 # ---- the exports of x86-64-v4 that have the code of x86-64-v3
 
-def is_of_v3(name):
+def is_of_v3(name: str) -> bool:
     """True for all exports of XXH32 and XXH64, and for calls without a message."""
     task = {**shown_by(), **dict.fromkeys(twins(), STREAMS)}[name]
     return name.startswith(("XXH32_", "XXH64_")) or task.startswith(("XXH32,", "XXH64,", *OTHERS))
@@ -73,7 +75,7 @@ OTHERS = ("the version", "equal hashes", "the order of hashes", "canonical forms
           "the derived secret")
 
 
-def expect_code_of_v3(program, other):
+def expect_code_of_v3(program: Program, other: Program) -> int:
     """Checks that these exports, with all that they reach, equal the other source's byte for byte."""
     found = {name for name in program.exports if is_of_v3(name)}
     left = found - shared(program, other)
@@ -82,7 +84,7 @@ def expect_code_of_v3(program, other):
     return len(found)
 
 
-def code_of(program, name):
+def code_of(program: Loaded, name: str) -> list[tuple]:
     """Returns the instructions of a function's section, with their offsets."""
     if name not in program.exports:
         raise NotShown(f"{name} isn't exported")

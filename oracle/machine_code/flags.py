@@ -2,23 +2,22 @@
 
     sub      of a and b, as `cmp` and `sub`           borrow   of a, b and a carry, as `sbb`: b is their sum
     add      of a and b                               logic    of a result, with no carry
-    shift    of a result; the carry isn't modelled
-    step     of a result; the previous carry remains"""
+    shift    of a result; the carry isn't modelled    step     of a result; the previous carry remains"""
 import collections
 import operator
 
-from oracle.symbolic_terms import (OPAQUE, TESTS, Node, Undecided, Unsupported, is_natural, is_number, is_same_number,
-                                   lifted, minus, operations, plus)
+from oracle.symbolic_terms import (OPAQUE, TESTS, Node, Poly, Undecided, Unsupported, Value, is_natural, is_number,
+                                   is_same_number, lifted, minus, operations, plus)
 
 from .memory import ENTRY, lie_apart
-from .values import Address, Either, quotients
+from .values import Address, Cpu, Either, quotients
 
 Flags = collections.namedtuple("Flags", "op width a b result")
 FAR = 1 << 62                     # no object reaches this address
 SIGNED = {"l": operator.lt, "ge": operator.ge, "g": operator.gt, "le": operator.le}
 
 
-def condition(cpu, name):
+def condition(cpu: Cpu, name: str) -> bool:
     """Returns the value of a condition, given as the suffix of a mnemonic."""
     if name in ("b", "ae"):
         return carry(cpu) == (name == "b")
@@ -46,7 +45,7 @@ def signed_operands(cpu):
     return [x % limit - limit * (x % limit >= limit // 2) for x in both]
 
 
-def carry(cpu):
+def carry(cpu: Cpu) -> bool:
     """True if there was a carry or a borrow. Decided only for numbers."""
     now = cpu.carry
     if now is None or now.op == "shift":
@@ -69,7 +68,7 @@ def is_zero(cpu):
     return is_equal(cpu, now.result, 0)
 
 
-def is_equal(cpu, a, b):
+def is_equal(cpu: Cpu, a: Value, b: Value) -> bool:
     if isinstance(a, Either) and is_same_number(b, 0):
         return a.is_zero()
     if isinstance(a, Address) or isinstance(b, Address):
@@ -92,7 +91,7 @@ def is_not_zero(cpu, x):
     return is_either and any(is_not_zero(cpu, part) for part in x.parts[1:])
 
 
-def is_below(cpu, a, b):
+def is_below(cpu: Cpu, a: Value, b: Value) -> bool:
     """True if a < b, as unsigned numbers."""
     if isinstance(a, Address) or isinstance(b, Address):
         return is_below_as_places(cpu, a, b)
@@ -115,7 +114,7 @@ def is_within(x):
     return is_natural(at) and is_natural(minus(memory.length, at))
 
 
-def are_one_place(a, b):
+def are_one_place(a: Value, b: Value) -> bool:
     if is_same_number(b, 0) and is_within(a):      # no object begins at 0
         return False
     if isinstance(a, Address) and isinstance(b, Address) and a.bases == b.bases:
@@ -125,7 +124,7 @@ def are_one_place(a, b):
     raise Undecided(f"{a} == {b}")
 
 
-def is_near(offset):
+def is_near(offset: int | Poly) -> bool:
     """True if an offset is small: two such offsets are equal exactly if the addresses modulo 2 ^ 64 are."""
     return is_natural(minus(FAR, offset)) and is_natural(plus(offset, FAR))
 
@@ -139,10 +138,9 @@ def is_below_as_places(cpu, a, b):
     raise Undecided(f"{a} < {b}")
 
 
-def is_far(cpu, distance, n):
+def is_far(cpu: Cpu, distance: Address, n: int | Poly) -> bool:
     """True if the distance of two addresses modulo 2 ^ 64 is n or more because their objects are disjoint. For objects
-    at P with p bytes and at Q with q, either P - Q >= q or Q - P >= p, and both are below 2 ^ 62. Two read-only objects
-    may overlap."""
+    at P with p bytes and Q with q, P - Q >= q or Q - P >= p, and both are below 2 ^ 62. Read-only ones may overlap."""
     if sorted(count for _, count in distance.bases) != [-1, 1]:
         return False
     (first, _), (second, _) = sorted(distance.bases, key=lambda base: -base[1])

@@ -22,8 +22,7 @@ BYTE = 1 << 8
 
 # ---- instructions
 
-# x86-64 instructions in GNU as's AT&T syntax. A long jump that could be short is written as its opcode bytes and a
-# distance.
+# x86-64 instructions in GNU as's AT&T syntax. A long jump that could be short is its opcode bytes and a distance.
 REGISTER = "%[a-z][a-z0-9]*"
 MEMORY = rf"(?:-?{HEX})?\({REGISTER}(?:,{REGISTER},[1248])?\)|{LABEL}(?:\+{HEX})?\(%rip\)"
 OPERAND = rf"(?:{REGISTER}|\$-?{HEX}|(?:{MEMORY})(?:\{{1to8\}})?)"
@@ -78,7 +77,7 @@ class Lines:
             self.take(re.escape(line), line.strip())
 
 
-def expect_grammar(path, arch):
+def expect_grammar(path: str, arch: str) -> None:
     """Refuses a source that doesn't follow the grammar, with the number of the first wrong line."""
     lines, sections, (instructions, notes) = Lines(path), set(), GRAMMARS[arch]
     lines.take(COMMENT, "a comment of one line")

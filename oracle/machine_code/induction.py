@@ -10,7 +10,7 @@ import functools
 from oracle.symbolic_terms import (REFUSALS, RUNS, Induction, Input, Node, NotShown, Undecided, divided, given,
                                    is_natural, is_number, is_same_number, minus, plus, same, step_between, times)
 
-from .values import Address, half_of, joined, with_half
+from .values import Address, Cpu, half_of, joined, with_half
 
 STEPS = 1, 2, 4, 8, 16            # stripes per iteration
 FIRST_TURNS = 64, 4               # numbers of stripes left, at which a first iteration is tried
@@ -55,7 +55,7 @@ class Family:
 
 # ---- cells
 
-def cells_of(cpu):
+def cells_of(cpu: Cpu) -> dict:
     """Maps all cells of a processor and its live objects to their values. A memory cell's key includes its size."""
     out: dict = {("register", name): x for name, x in cpu.registers.items()}
     out.update({(HALF, name): half for name, x in cpu.registers.items() for half in [half_of(x)] if half is not None})
@@ -65,12 +65,12 @@ def cells_of(cpu):
     return out
 
 
-def named(cell):
+def named(cell: tuple) -> tuple:
     """Returns a cell with the name of its object instead of the object."""
     return cell if isinstance(cell[0], str) else (cell[0].name, *cell[1:])
 
 
-def name_of(cell):
+def name_of(cell: tuple) -> str:
     holder, *where = cell
     if holder in ("register", HALF):
         return where[0]

@@ -5,14 +5,15 @@ byte such as `ah`, x, y and z a vector of 128, 256 and 512 bits, m memory, i a n
 table is refused. scalar.py and lanes.py fill it: each entry is a function of the processor and the instruction. It
 returns the next instruction's place if that isn't the following one. `form` also passes it the operands."""
 import functools
+from typing import Callable
 
 from oracle.symbolic_terms import Unsupported
 
-from .objects import Immediate, Place, Register
+from .objects import Immediate, Instruction, Place, Register
 
 V1, V2, V3, V4 = NAMES = "x86-64", "x86-64-v2", "x86-64-v3", "x86-64-v4"
 SETS = {name: NAMES[:k + 1] for k, name in enumerate(NAMES)}      # instruction sets that a processor of that name has
-TABLE = {}                                 # (mnemonic, letters) -> (set, function)
+TABLE: dict = {}                           # (mnemonic, letters) -> (set, function)
 WIDE = "rax", "rcx", "rdx", "rbx", "rsp", "rbp", "rsi", "rdi", *(f"r{k}" for k in range(8, 16))
 LETTERS = {8: "b", 16: "w", 32: "l", 64: "q"}
 
@@ -36,7 +37,7 @@ VECTORS = {f"{letter}mm{k}": k for letter in "xyz" for k in range(32)}
 OLDER = 16                                 # number of vector registers before x86-64-v4
 
 
-def form(level, mnemonics, letters):
+def form(level: str, mnemonics: str, letters: str) -> Callable:
     """Returns a decorator that adds a function to the table for the given mnemonics, letters and instruction set."""
     def put(function):
         def run(cpu, x):
@@ -48,7 +49,7 @@ def form(level, mnemonics, letters):
     return put
 
 
-def letter(operand):
+def letter(operand: Immediate | Place | Register) -> str:
     if isinstance(operand, Immediate):
         return "i"
     if isinstance(operand, Place):
@@ -62,17 +63,17 @@ def letter(operand):
     return "h" if first else LETTERS[width]
 
 
-def letters(instruction):
+def letters(instruction: Instruction) -> str:
     return "".join(map(letter, instruction.operands))
 
 
-def needs_v4(instruction):
+def needs_v4(instruction: Instruction) -> bool:
     """True if an operand is a vector register that x86-64-v4 added, of any width."""
     return any(VECTORS.get(x.name, 0) >= OLDER for x in instruction.operands if isinstance(x, Register))
 
 
 @functools.cache
-def known(instruction, processor):
+def known(instruction: Instruction, processor: str) -> Callable:
     """Returns the function for an instruction, or raises if the processor lacks it."""
     key = instruction.mnemonic, letters(instruction)
     level, function = TABLE.get(key, (None, None))

@@ -1,20 +1,20 @@
 """Semantics of vector instructions. A register of 512 bits is eight lanes of 64 bits, each a value. The older forms
 keep a register's upper lanes and require aligned memory; forms with a `v` set these lanes to 0."""
-from oracle.symbolic_terms import Unsupported, plus
+from oracle.symbolic_terms import Unsupported, Value, plus
 
 from .instructions import OLDER, V1, V2, V3, V4, VECTORS, form
-from .objects import Register
-from .values import WORD, arithmetic, bits, joined
+from .objects import Immediate, Instruction, Place, Register
+from .values import WORD, Cpu, arithmetic, bits, joined
 
 LANE = 8     # bytes
 WIDTHS = {"x": 2, "y": 4, "z": 8}     # in lanes
 
 
-def is_vector(operand):
+def is_vector(operand: object) -> bool:
     return isinstance(operand, Register) and operand.name in VECTORS
 
 
-def lanes_count(x):
+def lanes_count(x: Instruction) -> int:
     """Returns the number of lanes, 2, 4 or 8, by the widest register."""
     return max((WIDTHS[y.name[0]] for y in x.operands if is_vector(y)), default=2)
 
@@ -23,14 +23,14 @@ def is_new(x):
     return x.mnemonic[0] == "v"
 
 
-def read(cpu, operand, x, count, alignment=1):
+def read(cpu: Cpu, operand: Place | Register, x: Instruction, count: int, alignment: int = 1) -> list[Value]:
     if is_vector(operand):
         return cpu.lanes(operand, count)
     memory, at = cpu.place(operand, x, alignment)
     return [cpu.load(memory, plus(at, LANE * k), LANE) for k in range(count)]
 
 
-def write(cpu, operand, x, lanes, alignment=1):
+def write(cpu: Cpu, operand: Place | Register, x: Instruction, lanes: list[Value], alignment: int = 1) -> None:
     if not is_vector(operand):
         memory, at = cpu.place(operand, x, alignment)
         for k, lane in enumerate(lanes):
@@ -42,7 +42,7 @@ def write(cpu, operand, x, lanes, alignment=1):
         register[len(lanes):] = [0] * (len(register) - len(lanes))
 
 
-def two(cpu, x):
+def two(cpu: Cpu, x: Instruction) -> tuple[list[Value], list[Value]]:
     """Returns the two sources, the first operand's last. In the older form the destination is a source too."""
     b, a = x.operands[:-1] if is_new(x) else x.operands
     count = lanes_count(x)
@@ -50,11 +50,11 @@ def two(cpu, x):
     return read(cpu, a, x, count), read(cpu, b, x, count, alignment)
 
 
-def halves(lane):
+def halves(lane: Value) -> tuple[Value, Value]:
     return bits(lane, 0, 32), bits(lane, 32, 32)
 
 
-def of_halves(parts):
+def of_halves(parts: list[Value]) -> list[Value]:
     """Joins 32-bit words into lanes."""
     return [joined((parts[k], 32), (parts[k + 1], 32)) for k in range(0, len(parts), 2)]
 
@@ -66,7 +66,7 @@ def of_halves(parts):
 @form(V3, "vmovdqa", "yy")
 @form(V4, "vmovdqu64", "mz zm zz ym")
 @form(V4, "vmovdqa64", "mz zm zz yy")
-def move(cpu, x, source, to):
+def move(cpu: Cpu, x: Instruction, source: Place | Register, to: Place | Register) -> None:
     count = lanes_count(x)
     alignment = LANE * count if x.mnemonic.strip("v64") in ("movdqa", "movaps") else 1
     write(cpu, to, x, read(cpu, source, x, count, alignment), alignment)
@@ -76,7 +76,7 @@ def move(cpu, x, source, to):
 @form(V3, "vmovq", "qx xq xx mx")
 @form(V1, "movsd", "mx")
 @form(V3, "vmovsd", "mx")
-def move_low(cpu, x, source, to):
+def move_low(cpu: Cpu, x: Instruction, source: Place | Register, to: Place | Register) -> None:
     """Moves 64 bits. A vector destination's next 64 bits become 0."""
     word = cpu.lanes(source)[0] if is_vector(source) else cpu.get(source, WORD, x)
     if is_vector(to):
@@ -86,7 +86,7 @@ def move_low(cpu, x, source, to):
 
 
 @form(V3, "vmovd", "lx mx")
-def move_narrow(cpu, x, source, to):
+def move_narrow(cpu: Cpu, x: Instruction, source: Place | Register, to: Register) -> None:
     write(cpu, to, x, [cpu.get(source, 32, x), 0])
 
 
@@ -203,7 +203,7 @@ def logic_of_three(cpu, x, table, c, b, a):
 @form(V1, "pshufd", "ixx")
 @form(V3, "vpshufd", "ixx iyy")
 @form(V4, "vpshufd", "izz")
-def shuffle(cpu, x, order, source, to):
+def shuffle(cpu: Cpu, x: Instruction, order: Immediate, source: Place | Register, to: Register) -> None:
     lanes, out = read(cpu, source, x, lanes_count(x)), []
     for first in range(0, len(lanes), 2):
         parts = [word for lane in lanes[first:first + 2] for word in halves(lane)]
@@ -260,7 +260,7 @@ def shuffle_bytes(cpu, x, *_):
 
 
 @form(V3, "vpblendd", "iyyy ixxx")
-def blend(cpu, x, mask, second, first, to):
+def blend(cpu: Cpu, x: Instruction, mask: Immediate, second: Place | Register, first: Register, to: Register) -> None:
     a, b = ([word for lane in read(cpu, y, x, lanes_count(x)) for word in halves(lane)] for y in (first, second))
     write(cpu, to, x, of_halves([(b if mask.value >> k & 1 else a)[k] for k in range(len(a))]))
 

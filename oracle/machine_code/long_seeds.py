@@ -6,7 +6,7 @@ from oracle.symbolic_terms import (LONGEST, Bytes, Input, NotShown, at_most, def
 from .every_length import TURNS, EveryLength, xxh3_case
 from .memory import WordMemory
 from .streams import OK, expect_answer
-from .values import address
+from .values import Cpu, address
 
 MAKE, WRITES = "proved_XXH3_generateSecret", "twox_c.secrets.write_secret"      # the export and its callee
 BLOCK = 1024                      # bytes of a block under the default secret
@@ -39,7 +39,7 @@ class LongSeeds(EveryLength):
                 raise NotShown(f"a secret of {size} bytes of {case.length}: another value")
 
 
-def generated_secrets(cpu, sizes):
+def generated_secrets(cpu: Cpu, sizes: tuple[int, ...] | list[int]) -> int:
     """Proves the secrets of these sizes, and returns their number."""
     proof = LongSeeds(cpu)
     for size in sizes:

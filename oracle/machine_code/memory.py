@@ -5,8 +5,8 @@ everything below the stack pointer: there is no red zone across a call."""
 import collections
 import contextlib
 
-from oracle.symbolic_terms import (Input, Memory, Node, Poly, Undecided, Unsupported, divided, is_inside, is_natural,
-                                   is_same_number, lifted, minus, ones, plus, taken)
+from oracle.symbolic_terms import (Input, Memory, Node, Poly, Undecided, Unsupported, Value, divided, is_inside,
+                                   is_natural, is_same_number, lifted, minus, ones, plus, taken)
 from oracle.symbolic_terms.nodes import memo
 from oracle.symbolic_terms.operations import bits
 from oracle.symbolic_terms.polynomials import WORD
@@ -26,6 +26,8 @@ ReturnTo = collections.namedtuple("ReturnTo", "section at")
 
 class WordMemory(Memory):
     """Memory object whose cells hold values of registers. Parts of addresses can't be loaded."""
+
+    secret: Input | None              # of a state: the caller's
 
     def load(self, at, n):
         cell = self.cells.get(at)
@@ -81,7 +83,7 @@ class Constants(OnlyRead):
         super().__init__(name, len(data), [(k, 1, byte) for k, byte in enumerate(data)], alignment=alignment)
 
 
-def lie_apart(first, second):
+def lie_apart(first: Input | Memory, second: Input | Memory) -> bool:
     """True if two objects are disjoint: one of them is writable."""
     return any(isinstance(memory, WordMemory) and not isinstance(memory, OnlyRead) for memory in (first, second))
 
@@ -118,7 +120,7 @@ class Numbers(Input):
         return self.whole, at
 
 
-def spell(x, width=WORD):
+def spell(x: int | Node | Poly, width: int = WORD) -> Value:
     """Returns a polynomial's lowest bits as a term, and records the polynomial for `numbered`."""
     found = lifted(x)
     if isinstance(x, Poly) and isinstance(found, Node):
@@ -128,13 +130,13 @@ def spell(x, width=WORD):
     return found
 
 
-def numbered(x):
+def numbered(x: int | Node) -> Value:
     """Returns the polynomial of a term made by `spell`, if it fits in the term's width; else the term."""
     number, width = spelled.get(x.number, (-1, 0)) if isinstance(x, Node) else (-1, 0)
     return number if is_natural(number) and is_natural(minus(ones(width), number)) else x
 
 
-def copy(to, source, n, may_overlap):
+def copy(to: Value, source: Value, n: Value, may_overlap: bool) -> None:
     """Performs memcpy, or memmove with `may_overlap`."""
     if is_same_number(n, 0):
         return
@@ -151,7 +153,7 @@ def copy(to, source, n, may_overlap):
         memory.store(at + k, size, value)
 
 
-def fill(to, byte, n):
+def fill(to: Value, byte: Value, n: Value) -> None:
     """Performs memset."""
     memory, at = place_of(to)
     if not isinstance(byte, int) or not isinstance(n, int):
@@ -160,5 +162,5 @@ def fill(to, byte, n):
         memory.store(at + k, min(8, n - k), int.from_bytes(bytes([byte]) * min(8, n - k), "little"))
 
 
-def is_apart(a, b, n):
+def is_apart(a: int | Poly, b: int | Poly, n: int | Poly) -> bool:
     return is_natural(minus(a, plus(b, n))) or is_natural(minus(b, plus(a, n)))

@@ -16,6 +16,7 @@ import itertools
 import os
 import random
 import tempfile
+from typing import Callable, Iterator
 
 from oracle.reasons import CRASH, UNNOTICED, Called, Reasons, is_fault
 from oracle.symbolic_terms import definition, nodes, signed
@@ -24,7 +25,8 @@ from .executions import Library
 from .instructions import PARTS, SETS, TABLE, VECTORS, letters
 from .objects import TEXT, Immediate, Place, Register
 from .one_shots import is_plain
-from .queries import FOR_C, Call, are_long, by_induction, further, near, queries, reaching, takes_stripes
+from .queries import FOR_C, Beside, Call, are_long, by_induction, further, near, queries, reaching, takes_stripes
+from .values import Cpu
 
 FOLDER = os.path.join(os.path.dirname(os.path.abspath(__file__)), "equivalent_mutants")
 LIMIT = 40_000  # instructions of a changed source's call
@@ -223,7 +225,9 @@ def more_ways(cpu, reached, asked, entries, is_all, section, beside):
     yield from (Call(call).over_symbols for call in beside.more(cpu))
 
 
-def noticed(name, make, count, is_all, is_selected=anywhere, beside=FOR_C):
+def noticed(
+    name: str, make: Callable, count: int, is_all: bool, is_selected: Callable = anywhere, beside: Beside = FOR_C
+) -> tuple:
     """Returns the number of tested changes of a source, the failures, and remarks. `is_selected` selects sections."""
     cpu = make()
     some = of_seeds(functools.partial(random_changes, cpu, is_selected), count, SEEDS if is_all else 1)
@@ -247,19 +251,19 @@ def noticed_by_library(name, cpu, changes, is_all):
         return noticed_by_calls(cpu, changes, is_all, call)
 
 
-def of_seeds(one, count, seeds=1):
+def of_seeds(one: Callable[..., Iterator], count: int, seeds: int = 1) -> Callable[[list], Iterator]:
     """Returns a function of places, as `noticed_of` takes it: `count` changes of each of `seeds` random seeds."""
     return lambda places: itertools.chain.from_iterable(
         itertools.islice(one(places, random.Random(1 + number)), count) for number in range(seeds)
     )
 
 
-def part_of(changes, part):
+def part_of(changes: Callable[..., Iterator], part: int) -> Callable[[list], Iterator]:
     """Returns a function of places that yields every TASKS-th change, starting at `part`."""
     return lambda places: itertools.islice(changes(places), part, None, TASKS)
 
 
-def noticed_by_calls(cpu, changes, is_all, call):
+def noticed_by_calls(cpu: Cpu, changes: Callable, is_all: bool, call: Callable) -> tuple[int, list[str], str]:
     """Returns the number of tested changes, messages for undetected ones that change a result, and the counts of calls.
     `call` returns the first difference of a change's text and instructions."""
     count, bad, called = 0, [], Called()

@@ -4,8 +4,8 @@ import re
 import struct
 
 from oracle.symbolic_terms import Unsupported
-from assembly.same_bytes import (FRAMES, LOADED, NONE, NOTE, RELA, STRTAB, SYMTAB, USED, Object, is_global, notes_of,
-                                 properties_of)
+from assembly.same_bytes import (FRAMES, LOADED, NONE, NOTE, RELA, STRTAB, SYMTAB, USED, Object, Symbol, is_global,
+                                 notes_of, properties_of)
 
 PROGBITS, NOBITS, UNWIND = 1, 8, 0x70000001           # section types
 CODE, CONSTANTS, MERGEABLE, WRITTEN, INFO = LOADED | 4, LOADED, LOADED | 0x10, LOADED | 1, 0x40      # section flags
@@ -34,7 +34,7 @@ def require(holds, why):
         raise Unsupported(why)
 
 
-def expect_listed(object_, export):
+def expect_listed(object_: Object, export: tuple[int, int]) -> None:
     """Refuses an object with contents that aren't listed. `export` is an export's binding and visibility."""
     require((tuple(object_.data[6:9]), object_.flags) == (HEAD, 0), "an object for another system")
     names = [head.name for head in object_.heads]
@@ -75,7 +75,7 @@ def expect_notes(object_):
             all(list(properties_of(whole)) for _, whole in notes), f"a property beyond {SHADOW_STACK.hex()} and {USED}")
 
 
-def expect_symbol(object_, symbol, export, begun):
+def expect_symbol(object_: Object, symbol: Symbol, export: tuple[int, int], begun: set[str]) -> set[str]:
     """Checks a symbol. Returns the section that it is the function of in a set, or an empty set."""
     symbol_type, binding = symbol.info & 15, symbol.info >> 4
     if not symbol.section:
@@ -103,6 +103,7 @@ class Loaded:
 
     MACHINE = X86_64
     EXPORT = GLOBAL, DEFAULT      # binding and visibility
+    sections: dict                # of a subclass: name -> address -> instruction
 
     def __init__(self, path):
         self.object = Object(path)

@@ -103,9 +103,9 @@ class Program(Loaded):
         return Instruction(section, at, end, mnemonic, found, target)
 
 
-def listing(path, objdump="objdump", options=(), pattern=LINE, order=1):
-    """Maps each section to (address, bytes, text) of each instruction, as printed by objdump. `order` is -1 if it
-    prints the last byte first."""
+def listing(path: str, objdump: str = "objdump", options: tuple[str, ...] = (), pattern: re.Pattern = LINE,
+            order: int = 1) -> dict[str, list[tuple[int, bytes, str]]]:
+    """Maps each section to objdump's (address, bytes, text) of its instructions. `order` is -1 for reversed bytes."""
     command = [objdump, "-d", "-z", "-w", *options, path]
     found, lines = {}, None
     for line in subprocess.run(command, check=True, capture_output=True, text=True).stdout.splitlines():
@@ -116,7 +116,7 @@ def listing(path, objdump="objdump", options=(), pattern=LINE, order=1):
     return found
 
 
-def split(text):
+def split(text: str) -> tuple[str, str]:
     """Returns the mnemonic and the operands, without objdump's comments, and without the prefixes of a `nop`."""
     parts = text.split("#")[0].split(None, 1)
     while parts[0] in PREFIXES and len(parts) > 1 and re.match(r"(\w+ )*nop", parts[1]):
@@ -124,13 +124,13 @@ def split(text):
     return parts[0], parts[1].strip() if len(parts) > 1 else ""
 
 
-def with_broadcast(mnemonic, rest):
+def with_broadcast(mnemonic: str, rest: str) -> tuple[str, str]:
     """Moves a broadcast such as {1to8} from the memory operand to the mnemonic."""
     found = re.search(r"\{1to\d+\}", rest)
     return (mnemonic + found[0], rest.replace(found[0], "")) if found else (mnemonic, rest)
 
 
-def operand(text):
+def operand(text: str) -> Immediate | Place | Register:
     if text.startswith("$"):
         return Immediate(int(text[1:], 16))
     if text.startswith("%"):
@@ -143,5 +143,5 @@ def operand(text):
 
 
 @functools.cache
-def operands(text):
+def operands(text: str) -> tuple[Immediate | Place | Register, ...]:
     return tuple(operand(part) for part in re.split(r",(?![^(]*\))", text)) if text else ()

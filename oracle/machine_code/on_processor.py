@@ -9,13 +9,14 @@ import os
 import random
 import struct
 import subprocess
+from typing import Iterable
 
 from oracle.symbolic_terms import NotShown, ones
 
 from .disassembly import NOPS
 from .instructions import OLDER, PARTS, SETS, TABLE, V3, V4, WIDE, letters, needs_v4
 from .memory import ENTRY, Stack, WordMemory
-from .objects import Immediate, Place, Program, Register
+from .objects import Immediate, Instruction, Place, Program, Register
 from .processor import CALLEE_SAVED, LANES, VECTORS_COUNT, Processor
 from .scalar import CONDITIONS
 from .values import address
@@ -76,7 +77,7 @@ SNIPPETS = [
 # ---- the instructions
 
 
-def asked(programs, each):
+def asked(programs: Iterable[Program], each: bool) -> dict[str, tuple[str, str]]:
     """Maps text to form: each instruction of the programs, or one of each form; and one of each form of the table that
     no program has. Omits instructions that this processor lacks."""
     out, forms, sets = {}, set(), SETS[processor_here()]
@@ -95,12 +96,12 @@ def asked(programs, each):
     return out
 
 
-def sampled(mnemonic, form):
+def sampled(mnemonic: str, form: str) -> str:
     """Returns an instruction of a form, as text."""
     return written(mnemonic, sample(mnemonic, form))
 
 
-def form_of(x):
+def form_of(x: Instruction) -> tuple[str, str]:
     return x.mnemonic, letters(x)
 
 
@@ -116,7 +117,7 @@ def sample(mnemonic, form):
     return out
 
 
-def written(mnemonic, operands):
+def written(mnemonic: str, operands: Iterable[Immediate | Place | Register]) -> str:
     """Returns an instruction as text, with rbx for the stack pointer, and its memory operand in the buffer."""
     operands = [Register("rbx") if x == Register("rsp") else x for x in operands]
     names = {PARTS[x.name][0] for x in operands if isinstance(x, Register) and x.name in PARTS}
@@ -185,7 +186,9 @@ class Snippets(Program):
         pass
 
 
-def assembled(snippets, workdir, reader=Snippets):
+def assembled(
+    snippets: Iterable[Iterable[str]], workdir: str, reader: type[Program] = Snippets
+) -> tuple[ctypes.CDLL, Program]:
     """Returns the functions as a shared library to run, and as a program to read."""
     with open(f"{workdir}/snippets.s", "w", encoding="utf-8") as file:
         print('.section .note.GNU-stack,"",@progbits', ".text", sep="\n", file=file)
@@ -199,7 +202,7 @@ def assembled(snippets, workdir, reader=Snippets):
 # ---- both runs
 
 
-def inputs(mnemonic, lines, rng):
+def inputs(mnemonic: str, lines: list[str], rng: random.Random) -> bytearray:
     data = bytearray(rng.randbytes(SIZE))
     if rng.random() < 0.4:
         data = with_edges(data, rng)
@@ -227,7 +230,7 @@ def word(data, at):
     return int.from_bytes(data[at : at + 8], "little")
 
 
-def by_table(cpu, number, lines, data):
+def by_table(cpu: Processor, number: int, lines: list[str], data: bytes) -> bytes:
     """Returns the expected contents of the buffer afterwards, by the table."""
     state = WordMemory("state", SIZE, [(at, 8, word(data, at)) for at in range(MEMORY, AFTER, 8)], alignment=64)
     cpu.registers = {name: word(data, REGISTERS + 8 * k) for k, name in enumerate(LOADED)}
@@ -264,7 +267,7 @@ def run_to(cpu, place, end):
         place = operation(cpu, instruction) or (place[0], instruction.end)
 
 
-def own_bytes(programs):
+def own_bytes(programs: Iterable[Program]) -> dict[str, bytes]:
     """Maps text to bytes, of the programs' instructions without memory operands, which the tests change."""
     return {
         written(x.mnemonic, x.operands): program.object.body(program.heads[section])[at : x.end]
@@ -275,7 +278,13 @@ def own_bytes(programs):
     }
 
 
-def compare(texts, workdir, own=None, snippets=SNIPPETS, reader=Snippets):
+def compare(
+    texts: dict,
+    workdir: str,
+    own: dict[str, bytes] | None = None,
+    snippets: list[list[str]] = SNIPPETS,
+    reader: type[Program] = Snippets,
+) -> tuple[int, list[str]]:
     """Tests instructions, each with its form, and snippets. Returns their number and the differences. `own` maps
     instructions to the bytes that they must have."""
     forms, snippets = [*texts.values(), *[None] * len(snippets)], [*([text] for text in texts), *snippets]
@@ -308,14 +317,14 @@ def has(name):
         return FEATURES[name] <= set(file.read().split())
 
 
-def is_v4():
+def is_v4() -> bool:
     return has(V3) and has(V4)
 
 
-def processor_here():
+def processor_here() -> str:
     return V4 if is_v4() else V3
 
 
-def expect_processor():
+def expect_processor() -> None:
     if os.uname().machine != "x86_64" or not has(V3):
         raise NotShown("this processor isn't x86-64-v3: the table isn't compared")

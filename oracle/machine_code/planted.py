@@ -6,6 +6,7 @@ import re
 import subprocess
 import tempfile
 import unittest.mock
+from typing import Any, Callable, Collection
 
 from oracle.symbolic_terms import REFUSALS, TOP, NotShown, Request, WrongRule, definition, nodes, operations, variable
 
@@ -28,6 +29,7 @@ from .instructions import TABLE, V1, V2
 from .objects import Program
 from .processor import Processor
 from .sources import by_gnu
+from .values import Cpu
 from .wasm import layouts as record_layouts
 
 SOURCE = os.path.join(TOP, "c", "asm", f"{V2}.s")
@@ -38,12 +40,12 @@ Wrong = collections.namedtuple("Wrong", "what change ask message")
 # ---- changes of a source
 
 
-def field(at, register="%rdi"):
+def field(at: int, register: str = "%rdi") -> str:
     """Returns the operand of a place in a state, whose address a register has."""
     return f"{at:#x}({register})"
 
 
-def begun(name, *lines):
+def begun(name: str, *lines: str) -> Callable[[str], str]:
     """Returns a change that inserts lines at the start of a function."""
     return lambda text: with_lines(text, rf"^{re.escape(name)}:\n\t.cfi_startproc\n", "", lines)
 
@@ -87,16 +89,16 @@ def hidden_register(text):
     return text[:function] + text[function:].replace(old, f"{old}\txor %r11,%r8\n", 1)
 
 
-def substituted(pattern, new, count=1):
+def substituted(pattern: str, new: str, count: int = 1) -> Callable[[str], str]:
     """Returns a change of the first matches of a pattern, or of all if `count` is 0."""
     return lambda text: re.sub(pattern, new, text, count=count, flags=re.M)
 
 
-def ended(*lines):
+def ended(*lines: str) -> Callable[[str], str]:
     return lambda text: text + "".join(f"\t{line}\n" for line in lines)
 
 
-def function(name, *more):
+def function(name: str, *more: str) -> tuple[str, ...]:
     """Returns the lines of a function that only returns, with `more` directives before its name."""
     return (
         f'.section .text.{name},"ax",@progbits',
@@ -111,7 +113,7 @@ def function(name, *more):
 # ---- tests
 
 
-def request(*args, **more):
+def request(*args: Any, **more: Any) -> Callable[[Cpu], None]:
     """Returns a test that compares a request and its twin with the definition."""
 
     def ask(cpu):
@@ -123,18 +125,18 @@ def request(*args, **more):
     return ask
 
 
-def raising_limit(cpu):
+def raising_limit(cpu: Cpu) -> None:
     """Runs the version's call with a lower limit of instructions."""
     cpu.limit = 1000
     calls.version(cpu)
 
 
-def proving(proof_class, prove, *args):
+def proving(proof_class: Callable, prove: Callable, *args: Any) -> Callable[[Cpu], Any]:
     """Returns a test that makes a proof of this kind, and proves a case with it."""
     return lambda cpu: prove(proof_class(cpu, *args))
 
 
-def of_every_length(algorithm, seed=None, case=0):
+def of_every_length(algorithm: str, seed: int | None = None, case: int = 0) -> Callable[[Cpu], Any]:
     return proving(
         every_length.EveryLength, lambda proof: proof.show(every_length.cases(algorithm)[case], seed), algorithm
     )
@@ -144,7 +146,7 @@ def exported(cpu):
     exports.expect_all(cpu.program, exports.shown_by().values())
 
 
-def small_update(proof):
+def small_update(proof: xxh3_updates.Xxh3Updates) -> None:
     """Proves an update of an XXH3 stream that fits in the buffer."""
     proof.update(*list(proof.small_pieces())[-1])
 
@@ -371,7 +373,7 @@ TEXTS = [
 ]
 
 
-def unchanged(text):
+def unchanged(text: str) -> str:
     return text
 
 
@@ -414,7 +416,7 @@ def complaints(asked):
                 yield f"{one.title}: refused for another reason: {error}"
 
 
-def refused(asked):
+def refused(asked: Collection) -> tuple[int, list[str]]:
     """Returns the number of refusals, and the messages on the other planted faults."""
     bad = list(complaints(asked))
     return len(asked) - len(bad), bad
@@ -496,7 +498,7 @@ CHECKS = [lacks_a_case, has_a_wrong_sum, has_a_wrong_join, has_a_wrong_table, ha
 ASKED = [Asked(wrong, SOURCE, lambda path: Processor(Program(path), V2)) for wrong in (*TEXTS, LONGEST)]
 
 
-def noticed():
+def noticed() -> tuple[int, list[str]]:
     """Returns the number of detected faults in the check itself, and the messages on the others."""
     with tempfile.TemporaryDirectory(prefix="machine-text-") as workdir:
         bad = [f"{check.__name__}: not noticed" for check in CHECKS if not check(workdir)]

@@ -1,6 +1,7 @@
 """Planted faults that only the list of an object's contents (object_contents.py) refuses, or the tasks of exports,
 twins and frames: each is a committed source with other lines, and its executed instructions are unchanged."""
 import os
+from typing import Callable
 
 from oracle.symbolic_terms import TOP, NotShown
 
@@ -11,6 +12,7 @@ from .objects import Program
 from .planted import VERSION, Asked, Wrong, begun, ended, function, request, substituted
 from .processor import Processor
 from .unwinding import expect_frames
+from .values import Cpu
 
 ARM = "aarch64"
 X86_SOURCE, ARM_SOURCE = (os.path.join(TOP, "c", "asm", f"{name}.s") for name in (V3, ARM))
@@ -28,11 +30,11 @@ def exchanged(old, new):
     return change
 
 
-def in_section(name, *lines):
+def in_section(name: str, *lines: str) -> Callable[[str], str]:
     return ended(f".section {name}", *lines)
 
 
-def local(name):
+def local(name: str) -> Callable[[str], str]:
     return exchanged(f"\t.globl {name}\n", "")
 
 
@@ -46,7 +48,7 @@ def with_property(length, *values):
 # ---- tests
 
 
-def of_object(cpu):
+def of_object(cpu: Cpu) -> None:
     """Reads the object, as every task does first, and runs the version's call."""
     calls.version(cpu)
 
@@ -55,7 +57,7 @@ def of_exports(cpu):
     exports.expect_all(cpu.program, exports.shown_by().values())
 
 
-def of_twins(cpu):
+def of_twins(cpu: Cpu) -> None:
     exports.expect_twins(cpu.program)
 
 

@@ -28,8 +28,7 @@ NO_LIMIT = 1 << 24                # instructions of a call
 class Runner(Names):
     """Runs a program on a processor, which a subclass models. `not_zero` has terms assumed to be nonzero; `loops` is
     called at each possible loop head, and `live` has the objects that calls may write to then; `used` has the executed
-    instructions; `limit` is the maximum per call. `replaced` maps a function's place to a Python function that runs
-    instead."""
+    instructions; `limit` is the maximum per call. `replaced` maps a function's place to Python's function for it."""
 
     library: Any = ForC           # calls the exports
     registers: dict
@@ -278,7 +277,7 @@ class Processor(Runner):
         return flags.condition(self, name)
 
 
-def call_of_outer(name, cpu, _):
+def call_of_outer(name: str, cpu: Processor, _: None) -> ReturnTo:
     """Runs a call of memcpy, memmove or memset of another library."""
     to, source, n = (cpu.registers[name] for name in ARGUMENTS[:3])
     memory, at = cpu.registers["rsp"].place()

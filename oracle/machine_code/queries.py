@@ -7,7 +7,7 @@ cases of updates of any lengths and of one-shots of every length."""
 import collections
 import functools
 import random
-from typing import Optional
+from typing import Any, Callable, Iterable, Iterator, Optional
 
 from oracle.reasons import CRASH
 from oracle.symbolic_terms import REFUSALS, NotShown, Request, WrongRule, is_same, nodes
@@ -26,6 +26,8 @@ from . import (
     xxh3_updates,
 )
 from .memory import Numbers
+from .objects import Program
+from .values import Cpu
 
 ANOTHER_VALUE, ANOTHER_TERM = "another value", "another term"
 CASES = 8  # cases of an induction that are tried for a change
@@ -260,19 +262,19 @@ class OfRequest:
         return message
 
 
-def queries(entries, is_all, others, library):
+def queries(entries: dict, is_all: bool, others: Iterable[Callable], library: Any) -> list:
     """Returns the requests that a library can run, the shortest first, and the other calls."""
     asked = [twin for request in requests(is_all) if library.has(request) for twin in with_twins(request)]
     asked.sort(key=lambda request: request.length)
     return [*(OfRequest(request, entries) for request in asked), *map(Call, others)]
 
 
-def are_long(asked):
+def are_long(asked: Iterable["OfRequest"]) -> bool:
     """True if all requests take longer than an induction."""
     return all(query.request.length >= LONG for query in asked)
 
 
-def near(asked, entries, rng, count, shortest):
+def near(asked: Iterable, entries: dict, rng: random.Random, count: int, shortest: int) -> Iterator["OfRequest"]:
     """Yields requests with lengths and cuts near to the given ones, with mostly extreme bytes."""
     requests = [query.request for query in asked if query.request.length < LONG]
     for one in rng.choices(requests, k=count if requests else 0):
@@ -282,7 +284,7 @@ def near(asked, entries, rng, count, shortest):
         yield from (OfRequest(twin, entries, True) for twin in with_twins(request))
 
 
-def further(asked, entries, shortest):
+def further(asked: Iterable["OfRequest"], entries: dict, shortest: int) -> Iterator["OfRequest"]:
     """Yields further requests of the same hashes: one-shots of LENGTHS and with other secrets, and streams that add
     each number of bytes to the buffer and leave each number in it."""
     by_algorithm = {(one.hash_name, one.cuts is None): one for one in (query.request for query in asked)}
@@ -309,7 +311,7 @@ def further_streams(is_plain):
         yield BUFFERED + k, BUFFERED - k % 9
 
 
-def reaching(cpu, asked):
+def reaching(cpu: Cpu, asked: Iterable) -> dict[tuple[str, int], int]:
     """Maps each place to the queries that run its instruction, as a bit set. Raises if a query detects something
     in the unchanged source."""
     found = collections.defaultdict(int)
@@ -332,7 +334,9 @@ FOR_C = Beside([call for _, _, call in calls.OTHERS], xxh3_states.PROOFS, lambda
 # ---- queries by induction
 
 
-def by_induction(program, asked, section, updates):
+def by_induction(
+    program: Program, asked: Iterable["OfRequest"], section: str, updates: Iterable[Callable]
+) -> list["Call"]:
     """Returns queries that prove some cases of updates and one-shots, chosen by the requests that run a section, and
     of the section if it takes stripes. The classes `updates` prove the streams of XXH3."""
     found: dict = {}
@@ -361,7 +365,7 @@ def by_induction(program, asked, section, updates):
     return [Call(functools.partial(ask, k)) for ask in found.values() for k in range(CASES)]
 
 
-def takes_stripes(program, section):
+def takes_stripes(program: Program, section: str) -> bool:
     """True if a section is a function that takes stripes."""
     return any(program.functions.get(summary.name, (None,))[0] == section for summary in TAKING)
 
@@ -375,7 +379,7 @@ def case_of(cases, k):
     return cases[k * (len(cases) - 1) // (CASES - 1)]
 
 
-def plain_update(name, k, cpu):
+def plain_update(name: str, k: int, cpu: Cpu) -> None:
     any_updates.AnyUpdates(cpu, name).update(case_of(any_updates.updates(name), k))
 
 
@@ -405,7 +409,7 @@ def xxh3_reset(updates, k, cpu):
     proof.reset(*case_of(proof.resets(), k))
 
 
-def xxh3_update(updates, k, cpu):
+def xxh3_update(updates: Callable, k: int, cpu: Cpu) -> None:
     case_of(updates(cpu).queries(xxh3_updates.UPDATES), k)()
 
 

@@ -7,12 +7,15 @@ they show: a second name, and x86-64-v4's exports with the code of x86-64-v3."""
 import collections
 import contextlib
 import unittest.mock
+from typing import Callable
 
 from oracle.symbolic_terms import REFUSALS, WrongRule, comparison
+from oracle.symbolic_terms.processes import Task
 
 from . import tasks
 from .cargo_exports import BEGIN
 from .instructions import V2, V3, V4
+from .object_contents import Loaded
 from .objects import Instruction
 from .one_shots import NAMES, WAYS
 
@@ -125,7 +128,7 @@ def tags(export):
     )
 
 
-def first_failure():
+def first_failure() -> contextlib.ExitStack:
     """Returns the context in which a task ends at its first failure."""
     difference = comparison.difference
 
@@ -147,7 +150,7 @@ def first_failure():
     return stack
 
 
-def fails(task):
+def fails(task: Task) -> bool:
     """True if a task fails. A crash doesn't count: it ends this one."""
     try:
         return bool(task.ask()[1])
@@ -155,7 +158,9 @@ def fails(task):
         return True
 
 
-def unnoticed(name, program, asked, known, body=never, each=1):
+def unnoticed(
+    name: str, program: Loaded, asked: list[Task], known: Known, body: Callable = never, each: int = 1
+) -> tuple[str, list[str]]:
     """Removes each function of a source, or every `each`-th export if that isn't 1. Returns how many exports and others
     it removed, and those that no task detects."""
     exported, bad = {section for section, _ in program.exports.values()}, []

@@ -1,11 +1,13 @@
 """Semantics of instructions on words."""
-from oracle.symbolic_terms import BINARY, Poly, Unsupported, is_same_number, lifted, ones, operations, plus
+from typing import Callable
+
+from oracle.symbolic_terms import BINARY, Poly, Unsupported, Value, is_same_number, lifted, ones, operations, plus
 
 from .flags import carry
 from .instructions import V1, V3, form
 from .memory import ReturnTo
-from .objects import Register
-from .values import WORD, arithmetic, bits, high_and_low, is_term, joined, low, place_of
+from .objects import Immediate, Instruction, Place, Register
+from .values import WORD, Cpu, arithmetic, bits, high_and_low, is_term, joined, low, place_of
 
 CONDITIONS = "e", "ne", "b", "ae", "a", "be", "l", "ge", "g", "le"
 TWO = "il iq ml mq ll qq"          # operands of additions and comparisons
@@ -31,7 +33,7 @@ def never(cpu, x):
 @form(V1, "mov", "ib il iq ml mq wm lm ll qm qq bm hm bb")
 @form(V1, "movl movq", "im")
 @form(V1, "movabs", "iq")
-def move(cpu, x, source, to):
+def move(cpu: Cpu, x: Instruction, source: Immediate | Place | Register, to: Place | Register) -> None:
     width = cpu.width(x)
     cpu.put(to, width, cpu.get(source, width, x), x)
 
@@ -57,7 +59,7 @@ def move_turned(cpu, x, source, to=None):
     cpu.put(to or source, width, turned(cpu.get(source, width, x), width), x)
 
 
-def turned(x, width):
+def turned(x: Value, width: int) -> Value:
     """Returns the bytes in reverse order."""
     return joined(*((bits(x, k, 8), 8) for k in range(width - 8, -8, -8)))
 
@@ -126,7 +128,7 @@ def move_where(cpu, x, source, to):
 
 # ---- addition, subtraction, logic
 
-def binary(word, op):
+def binary(word: str, op: str) -> Callable:
     def operation(cpu, x, source, to):
         width = cpu.width(x)
         if word in ("xor", "sub") and source == to:     # 0 for any content
@@ -151,20 +153,20 @@ form(V1, "or", "bb")(binary("or", "logic"))
 
 @form(V1, "cmp", TWO + " ib lm qm")
 @form(V1, "cmpl cmpq", "im")
-def compare(cpu, x, source, to):
+def compare(cpu: Cpu, x: Instruction, source: Immediate | Place | Register, to: Place | Register) -> None:
     width = cpu.width(x)
     cpu.set_flags("sub", width, cpu.get(to, width, x), cpu.get(source, width, x), None)
 
 
 @form(V1, "test", "ib il iq bb ll qq")
-def test(cpu, x, source, to):
+def test(cpu: Cpu, x: Instruction, source: Immediate | Register, to: Place | Register) -> None:
     width = cpu.width(x)
     a, b = cpu.get(to, width, x), cpu.get(source, width, x)
     cpu.set_flags("logic", width, a, b, a if source == to else arithmetic("and", width, a, b))
 
 
 @form(V1, "sbb", "ib ll qq")
-def subtract_with_borrow(cpu, x, source, to):
+def subtract_with_borrow(cpu: Cpu, x: Instruction, source: Immediate | Register, to: Register) -> None:
     width = cpu.width(x)
     borrow, a, b = int(carry(cpu)), cpu.get(to, width, x), cpu.get(source, width, x)
     if is_term(a, b):
@@ -175,7 +177,7 @@ def subtract_with_borrow(cpu, x, source, to):
 
 
 @form(V1, "inc dec", "l q")
-def step(cpu, x, to):
+def step(cpu: Cpu, x: Instruction, to: Place | Register) -> None:
     width, saved = cpu.width(x), cpu.carry
     result = arithmetic("add" if x.mnemonic == "inc" else "sub", width, cpu.get(to, width, x), 1)
     cpu.set_flags("step", width, None, None, result)
@@ -208,7 +210,7 @@ def product(cpu, x, a, b, *_):
 
 
 @form(V1, "mul", "q")
-def whole_product(cpu, x, source):
+def whole_product(cpu: Cpu, x: Instruction, source: Place | Register) -> None:
     factor = cpu.get(source, WORD, x)
     cpu.registers["rdx"], cpu.registers["rax"] = high_and_low(cpu.registers["rax"], factor)
     cpu.forget_flags()
@@ -222,7 +224,7 @@ def whole_product_apart(cpu, x, source, lower, upper):
 
 
 @form(V1, "div", "w l q")
-def divide(cpu, x, source):
+def divide(cpu: Cpu, x: Instruction, source: Place | Register) -> None:
     width = cpu.width(x)
     above, a, b = low(cpu.registers["rdx"], width), low(cpu.registers["rax"], width), cpu.get(source, width, x)
     if not is_same_number(above, 0) or is_same_number(b, 0):
@@ -265,7 +267,7 @@ def shift_to(cpu, x, amount, source, to):
     cpu.put(to, width, arithmetic({"shlx": "shl", "shrx": "lshr"}[x.mnemonic], width, a, k) if k else a, x)
 
 
-def side_shifted(width, a, b, k):
+def side_shifted(width: int, a: Value, b: Value, k: int) -> Value:
     """Returns a shifted left by k bits, with the upper bits of b below."""
     if not k:
         return a

@@ -6,6 +6,7 @@ import math
 import random
 import tempfile
 import types
+from typing import Any, Collection, Iterator
 
 from oracle.symbolic_terms.processes import Task
 from oracle.verifier_mutants import checks, edges, inductions, objects, processors, values
@@ -31,8 +32,11 @@ from . import (
     tasks,
     xxh3_updates,
 )
+from .cargo import CargoProgram
 from .cargo_exports import BEGIN
 from .instructions import SETS, TABLE, V1, V4
+from .object_contents import Loaded
+from .objects import Program
 from .queries import CASES, Beside, plain_update, xxh3_update
 from .tasks import counted, makers
 
@@ -49,11 +53,11 @@ SOME_EXPORTS = 26  # step between removed exports without --all
 SOME_CHECKS, SWITCHED_OFF = 9, (4, 100)  # step of planted faults without --all; minimum of disabled checks
 
 
-def planted_task(title, asked):
+def planted_task(title: str, asked: Collection) -> Task:
     return counted(title, len(asked), functools.partial(planted.refused, asked))
 
 
-def choose(texts, others, is_all):
+def choose(texts: dict[str, Program], others: dict[str, CargoProgram], is_all: bool) -> list[Task]:
     """Returns the tasks on c/asm's sources and on cargo's, which are `others`."""
     forms = sum(level in SETS[on_processor.processor_here()] for level, _ in TABLE.values())
     without = "" if on_processor.is_v4() else ", without what it lacks of x86-64-v4"
@@ -179,7 +183,7 @@ def change_task(where, counts, is_all, *asked, **more):
     )
 
 
-def parts_of_changes(title, asked, program, is_all):
+def parts_of_changes(title: str, asked: Any, program: Loaded, is_all: bool) -> Iterator[Task]:
     """Yields a task with a few of a module's changes, or with --all a task for each part of them."""
     for part in range(mutation.TASKS) if is_all else [None]:
         portion = "" if part is None else f", part {part + 1} of {mutation.TASKS}"

@@ -85,7 +85,7 @@ def allocated():
     return {name: int(size) for name, size in found}
 
 
-def of_source():
+def of_source() -> tuple[int, list[str]]:
     """Returns the number of layouts, and all differences from the source."""
     state = Structure("Xxh3State", "twox_c/src/xxh3_state", XXH3)
     bad = [

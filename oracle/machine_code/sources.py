@@ -4,8 +4,9 @@ import os
 import struct
 import subprocess
 import tempfile
+from typing import Any, Callable
 
-from assembly.same_bytes import Object, difference, differences
+from assembly.same_bytes import Object, Part, difference, differences
 from oracle.symbolic_terms import NotShown, Unsupported
 
 from .grammar import expect_grammar
@@ -26,26 +27,26 @@ global_asm!(include_str!("{source}"), options({options}));
 ASSEMBLERS = "GNU as", "clang", "rustc"
 
 
-def assembled(source, arch, read):
+def assembled(source: str, arch: str, read: Callable) -> Any:
     """Assembles a source and returns `read`'s result for the object's path."""
     expect_grammar(source, arch)
     with tempfile.TemporaryDirectory(prefix="machine-text-") as workdir:
         return read(by_gnu(source, arch, workdir))
 
 
-def by_gnu(source, arch, workdir):
+def by_gnu(source: str, arch: str, workdir: str) -> str:
     built = os.path.join(workdir, "gnu.o")
     run([GNU[arch], "--no-warn", source, "-o", built])
     return built
 
 
-def by_clang(source, arch, workdir):
+def by_clang(source: str, arch: str, workdir: str) -> str:
     built = os.path.join(workdir, "clang.o")
     run(["clang", "-c", f"--target={TARGETS[arch][0]}", source, "-o", built])
     return built
 
 
-def by_rustc(source, arch, workdir):
+def by_rustc(source: str, arch: str, workdir: str) -> str:
     built, crate = os.path.join(workdir, "rustc.o"), os.path.join(workdir, "rustc.rs")
     _, target, options = TARGETS[arch]
     with open(crate, "w", encoding="utf-8") as file:
@@ -60,7 +61,7 @@ def run(command, **more):
         raise Unsupported(f"{command[0]} refuses the text: {done.stderr.strip()[:300]}")
 
 
-def expect_alike(sources):
+def expect_alike(sources: list[tuple[str, str]]) -> int:
     """Compares each source's objects by the three assemblers: bytes, relocations, names, notes and frames. `sources`
     are (path, kind). Returns the number of equal objects."""
     for source, arch in sources:
@@ -73,7 +74,7 @@ def expect_alike(sources):
     return 2 * len(sources)
 
 
-def parts_of(path):
+def parts_of(path: str) -> dict[str, Part]:
     object_ = Object(path)
     try:
         return {**object_.parts(), **object_.added()}

@@ -1,10 +1,8 @@
-"""A state of XXH3 in memory, parts of which are runs: bytes of a message or a secret at a symbolic offset or of a
-symbolic length."""
+"""A state of XXH3 in memory, parts of which are runs: bytes of a message or a secret of a symbolic offset or length."""
 import contextlib
-from typing import Optional
 
-from oracle.symbolic_terms import (NODES, RUNS, SYMBOL, Input, Node, Unsupported, in_order, is_inside, is_natural,
-                                   is_same_number, is_within, minus, outside, plus)
+from oracle.symbolic_terms import (NODES, RUNS, SYMBOL, Input, Node, Unsupported, Value, in_order, is_inside,
+                                   is_natural, is_same_number, is_within, minus, outside, plus)
 
 from .memory import WordMemory
 
@@ -20,7 +18,7 @@ class Source(Input):
         return whole, first
 
 
-def source_of(value, n):
+def source_of(value: Value, n: int) -> tuple[Input, Value]:
     """Returns the input and the offset whose n bytes a value is."""
     segments = value.segments if isinstance(value, Node) else ()
     if len(segments) == 1:
@@ -35,8 +33,6 @@ def source_of(value, n):
 
 class State(WordMemory):
     """State that keeps stores to `buffer`, (first, end), as runs, and elsewhere copies of symbolic length."""
-
-    secret: Optional[Input]           # the caller's
 
     def __init__(self, name, length, cells, runs, buffer, alignment=8):
         super().__init__(name, length, cells, runs, alignment=alignment)
@@ -72,7 +68,7 @@ class State(WordMemory):
         self.cells[RUNS] = (*others, *((low, high, source, shift) for low, high in united([*parts, (at, end)])))
 
 
-def united(spans):
+def united(spans: list) -> list[tuple[Value, Value]]:
     """Merges spans that are known to touch or overlap."""
     done = []
     for span in spans:
@@ -83,7 +79,7 @@ def united(spans):
     return done
 
 
-def union(a, b):
+def union(a: tuple[Value, Value], b: tuple[Value, Value]) -> tuple[Value, Value] | None:
     """Returns the union of two spans, or None if they aren't known to touch or overlap."""
     with contextlib.suppress(Unsupported):
         if is_natural(minus(a[1], b[0])) and is_natural(minus(b[1], a[0])):

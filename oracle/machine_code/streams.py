@@ -1,43 +1,43 @@
 """Runs the streams of a source: reset, updates that end at given offsets, digest. A state has any content before its
 reset. Each update gets its chunk as a separate memory object. No digest changes the state."""
-from oracle.symbolic_terms import Piece, Unsupported, is_same, is_same_number
+from oracle.symbolic_terms import Input, Piece, Request, Unsupported, Value, is_same, is_same_number
 
 from . import layouts
 from .memory import WordMemory
 from .one_shots import NAMES, WAYS, is_plain, name_of, of_seed, suppose_seed, value_of
-from .values import address, low
+from .values import Cpu, address, low
 
 OK, ERROR = 0, 1
 ALIGNMENT = {"32": 4}             # of a state, by the header; 8 for the others
 
 
-def state_name(hash_name):
+def state_name(hash_name: str) -> str:
     return hash_name.split("-")[0]
 
 
-def new_state(cpu, hash_name, library=None):
+def new_state(cpu: Cpu, hash_name: str, library: object = None) -> WordMemory:
     """Returns memory of a state's size, with any content."""
     size = (library or cpu.library).SIZES[state_name(hash_name)]
     cells = [(at, 8, cpu.fresh("a state's word")) for at in range(0, size, 8)]
     return WordMemory("state", size, cells, alignment=ALIGNMENT.get(hash_name, 8))
 
 
-def contents(memory, size=8):
+def contents(memory: WordMemory, size: int = 8) -> list[Value]:
     return [memory.load(at, size) for at in range(0, memory.length, size)]
 
 
-def expect_same(what, before, memory, size=8):
+def expect_same(what: str, before: list[Value], memory: WordMemory, size: int = 8) -> None:
     """Checks that the memory is unchanged."""
     if not all(is_same(x, y) or is_same_number(x, y) for x, y in zip(before, contents(memory, size), strict=True)):
         raise Unsupported(f"{what} changes the state")
 
 
-def expect_answer(answer, code):
+def expect_answer(answer: tuple[Value, Value], code: int) -> None:
     if not is_same(low(answer[0], 32), code):
         raise Unsupported(f"an answer of {answer[0]}")
 
 
-def reset(cpu, request, state):
+def reset(cpu: Cpu, request: Request, state: WordMemory) -> tuple[Value, Value]:
     """Resets a state by the functions behind c/guards.c. A secret of another length than OWN stays the caller's."""
     name, state.secret = f"{NAMES[request.hash_name]}_reset", None
     if not request.secret:
@@ -50,7 +50,7 @@ def reset(cpu, request, state):
                     *of_seed(request))
 
 
-def update(cpu, hash_name, state, piece):
+def update(cpu: Cpu, hash_name: str, state: WordMemory, piece: Input | None) -> tuple[Value, Value]:
     """Updates a state: one with a secret of the caller as c/streams.c does, which reads the address in it."""
     chunk = (address(piece), piece.length) if piece else (0, 0)
     if getattr(state, "secret", None):
@@ -58,12 +58,12 @@ def update(cpu, hash_name, state, piece):
     return cpu.call(f"{proved(hash_name)}_update", address(state), *chunk)
 
 
-def proved(hash_name):
+def proved(hash_name: str) -> str:
     """Returns the beginning of the names of a hash's calls that the library's C files may wrap."""
     return NAMES[hash_name] if is_plain(hash_name) else f"proved_{NAMES[hash_name]}"
 
 
-def digest(cpu, hash_name, state):
+def digest(cpu: Cpu, hash_name: str, state: WordMemory) -> Value:
     """Returns the hash of everything written to a state. Checks that the state stays unchanged."""
     before = contents(state)
     value = cpu.library.digest(cpu, hash_name, state)
@@ -71,7 +71,7 @@ def digest(cpu, hash_name, state):
     return value
 
 
-def of_text(cpu, request):
+def of_text(cpu: Cpu, request: Request) -> Value:
     suppose_seed(cpu, request)
     library, state, at = cpu.library, new_state(cpu, request.hash_name), 0
     library.reset(cpu, request, state)

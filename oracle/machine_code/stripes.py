@@ -7,8 +7,8 @@ from an iteration that ends a block, and then proved with everything else."""
 import collections
 import functools
 
-from oracle.symbolic_terms import (REFUSALS, Input, NotShown, divided, given, is_natural, is_same_number, minus, moved,
-                                   plus, same, suppositions, times, variable)
+from oracle.symbolic_terms import (REFUSALS, Input, NotShown, Poly, divided, given, is_natural, is_same_number, minus,
+                                   moved, plus, same, suppositions, times, variable)
 
 from . import layouts
 from .induction import Family, Proof
@@ -242,7 +242,7 @@ class Summary:
             raise NotShown(f"a call of {self.name}: {what}")
 
 
-def is_at(place, source, at, n):
+def is_at(place: Address, source: Input, at: int | Poly, n: int | Poly) -> bool:
     """True if the n bytes at an address are an input's bytes at offset `at`."""
     memory, offset = place.place()
     if isinstance(memory, Input):

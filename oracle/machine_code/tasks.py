@@ -2,7 +2,7 @@
 import functools
 import itertools
 import os
-from typing import Any
+from typing import Any, Callable, Iterable, Iterator, Mapping
 
 from oracle.symbolic_terms import REFUSALS, TOP, Request, WrongRule, comparison, nodes, variable
 from oracle.symbolic_terms.processes import Task
@@ -11,7 +11,7 @@ from . import (any_secret, any_updates, calls, coverage, every_length, exports, 
                scalar, streams, xxh3_states, xxh3_updates)
 from .cargo import CargoProcessor, CargoProgram
 from .instructions import V1, V2, V3, V4
-from .objects import Program
+from .objects import Loaded, Program
 from .processor import Processor
 from .sources import assembled, expect_alike
 from .unwinding import expect_frames
@@ -38,13 +38,12 @@ FEWEST_FRAMED = 9000                                # minimum number of instruct
 assert scalar and lanes                             # imported because they fill the table
 
 
-def programs():
+def programs() -> dict[str, Program]:
     return {name: assembled(f"{FOLDER}/{name}.s", V1, Program) for name in NAMES}
 
 
-def makers(texts):
-    """Maps each name to a function that makes a processor of its source. The tasks' processes share the instructions'
-    functions, which are looked up here."""
+def makers(texts: Mapping[str, Program]) -> Mapping[str, Callable]:
+    """Maps each name to a function that makes a processor of its source. Instructions' functions are looked up once."""
     processors = {name: functools.partial(Processor, program, name) if not isinstance(program, CargoProgram) else
                   functools.partial(CargoProcessor, program) for name, program in texts.items()}
     for make in processors.values():
@@ -52,7 +51,7 @@ def makers(texts):
     return processors
 
 
-def counted(title, least, ask, *arguments):
+def counted(title: str, least: int, ask: Callable, *arguments: object) -> Task:
     """Returns a task with a minimum number of cases: `ask` returns how many passed, the failures, and remarks."""
     def outcome():
         count, bad, *remarks = ask(*arguments)
@@ -61,7 +60,7 @@ def counted(title, least, ask, *arguments):
     return Task(title, outcome)
 
 
-def choose(options, texts):
+def choose(options: Any, texts: dict[str, Program]) -> list[Task]:
     """Returns the tasks on c/asm."""
     processors, is_all = makers(texts), options.all
     tasks = [*one_shot_tasks(processors, is_all), *secret_tasks(processors, is_all),
@@ -71,22 +70,22 @@ def choose(options, texts):
     return tasks
 
 
-def export_task(texts, titles):
+def export_task(texts: Mapping[str, Loaded], titles: list[str]) -> Task:
     return counted("each export has its task", 55 * len(texts),
                    lambda: (sum(exports.expect_all(program, titles) for program in texts.values()), []))
 
 
-def before_v4(processors):
+def before_v4(processors: Mapping[str, Callable]) -> dict[str, Callable]:
     return {name: make for name, make in processors.items() if not name.endswith(V4)}
 
 
-def only_v4(processors):
+def only_v4(processors: Mapping[str, Callable]) -> dict[str, Callable]:
     return {name: make for name, make in processors.items() if name.endswith(V4)}
 
 
 # ---- one-shots and streams, compared with the definition's terms
 
-def compared(processors, title, requests, side=one_shots):
+def compared(processors: Mapping, title: str, requests: Iterable[Request], side: Any = one_shots) -> Task:
     """Returns a task of requests, each for all sources: the definition's term is computed once. For XXH32 and XXH64
     x86-64-v4's code equals x86-64-v3's."""
     requests = list(requests)
@@ -99,7 +98,7 @@ def compared(processors, title, requests, side=one_shots):
     return counted(f"{title}: {min(lengths)} to {max(lengths)} bytes", len(requests) * len(processors), ask)
 
 
-def one_by_one(processors, algorithm: tuple[str, str, Any], lengths, more=""):
+def one_by_one(processors: Mapping, algorithm: tuple[str, str, Any], lengths: Iterable[int], more: str = "") -> Task:
     return compared(processors, comparison.title_of(*algorithm) + more, comparison.requests(*algorithm, lengths))
 
 
@@ -133,8 +132,8 @@ def stream_tasks(processors, is_all):
     yield from xxh3_tasks(processors, is_all)
 
 
-def plain_stream_tasks(processors, is_all, some=SOME_UPDATES, title="streams of XXH{}: any updates",
-                       names=("32", "64")):
+def plain_stream_tasks(processors: Mapping[str, Callable], is_all: bool, some: int = SOME_UPDATES,
+                       title: str = "streams of XXH{}: any updates", names: tuple = ("32", "64")) -> Iterator[Task]:
     """Yields the tasks of streams of XXH32 and XXH64: all cases, or a sample. Only both have resets and digests."""
     yield counted("each update of XXH32 and XXH64 has its task", 2, updates_left_out)
     for hash_name in names:
@@ -147,7 +146,7 @@ def plain_stream_tasks(processors, is_all, some=SOME_UPDATES, title="streams of 
                               any_streams, make, hash_name, part, some, len(names) > 1)
 
 
-def xxh3_tasks(processors, is_all, proofs=xxh3_states.PROOFS):
+def xxh3_tasks(processors: Mapping[str, Callable], is_all: bool, proofs: tuple = xxh3_states.PROOFS) -> Iterator[Task]:
     """Yields the tasks of streams of XXH3 with any updates, by proofs of some kinds: all cases, in parts, or some."""
     for proof_class, (name, make) in itertools.product(proofs, processors.items()):
         yield counted(f"{proof_class.TITLE}: each case has its task, {name}", COVERED[is_all] // 3,
@@ -160,19 +159,19 @@ def xxh3_tasks(processors, is_all, proofs=xxh3_states.PROOFS):
                               any_xxh3, make, what, part, proof_class)
 
 
-def points_left_out(make, is_all, proof_class):
+def points_left_out(make: Callable, is_all: bool, proof_class: Callable) -> tuple[int, list[str]]:
     """Returns the number of points, and messages for those that no case contains."""
     bad = [f"no case has {point}" for point in coverage.left_out(proof_class(make()), COVERED[is_all] // 3)]
     return COVERED[is_all] // 3, bad[:5]
 
 
-def any_xxh3(make, what, part, proof_class):
+def any_xxh3(make: Callable, what: str, part: int | None, proof_class: Callable) -> tuple[int, list[str]]:
     proof = proof_class(make())
     asked, (some, parts) = proof.queries(what), XXH3_CASES[what]
     return count_shown(proof, sample(what, asked, some) if part is None else asked[part::parts])
 
 
-def sample(what, asked, some):
+def sample(what: str, asked: list, some: int) -> list:
     """Returns some of the proofs and the last one, or one for each function that takes stripes."""
     each = {ask.args[1][0].name: ask for ask in asked if hasattr(ask, "args")} if what == xxh3_updates.STRIPES else {}
     return [*each.values()] or [*asked[::len(asked) // some], asked[-1]]
@@ -184,12 +183,13 @@ def few_streams(lengths, hash_name, variant, secret):
         yield from [request, *request.with_seed_0()]
 
 
-def updates_left_out():
+def updates_left_out() -> tuple[int, list[str]]:
     bad = [f"XXH{name}: no case has {left[:5]}" for name in layouts.PLAIN if (left := any_updates.left_out(name))]
     return len(layouts.PLAIN) - len(bad), bad
 
 
-def any_streams(make, hash_name, part, some, has_ends, proof_class=any_updates.AnyUpdates):
+def any_streams(make: Callable, hash_name: str, part: int | None, some: int, has_ends: bool,
+                proof_class: Callable = any_updates.AnyUpdates) -> tuple[int, list[str]]:
     """Proves updates: a part, or a sample. The sample and the first part include the reset and digests, if any."""
     proof = proof_class(make(), hash_name)
     cases = list(any_updates.updates(hash_name))
@@ -200,7 +200,7 @@ def any_streams(make, hash_name, part, some, has_ends, proof_class=any_updates.A
     return count_shown(proof, asked)
 
 
-def count_shown(proof, asked):
+def count_shown(proof: every_length.Cases, asked: list) -> tuple[int, list[str]]:
     """Returns the number of proved cases, and the messages on the others."""
     bad = []
     for ask in asked:
@@ -228,7 +228,7 @@ def every_length_tasks(processors, is_all):
     yield from [*long_tasks(processors, is_all), *(short_tasks_of_v4(processors) if is_all else ())]
 
 
-def long_tasks(processors, is_all):
+def long_tasks(processors: Mapping[str, Callable], is_all: bool) -> Iterator[Task]:
     """Yields the tasks of XXH3 of every length: all cases, or some with a secret."""
     yield from any_secret_tasks(processors, is_all, ANY_SECRET)
     for hash_name, way in itertools.product(("3-64", "3-128"), ("default", "seed")) if is_all else ():
@@ -241,7 +241,7 @@ def long_tasks(processors, is_all):
         yield counted(title, 241, up_to_240, make, algorithm)
 
 
-def any_secret_tasks(processors, is_all, algorithms):
+def any_secret_tasks(processors: Mapping[str, Callable], is_all: bool, algorithms: list[str]) -> Iterator[Task]:
     """Yields the tasks of XXH3 from 241 bytes on with any secret: all cases, or some."""
     yield counted("every length with any secret has its task", COVERED[is_all], secrets_left_out, processors, is_all)
     for algorithm in algorithms:
@@ -262,18 +262,18 @@ def short_tasks_of_v4(processors):
             for name, way in (algorithm.split(":") for algorithm in ANY_SECRET)]
 
 
-def of_every_length(processors, algorithm, title, asked, seed=None):
+def of_every_length(processors: Mapping, algorithm: str, title: str, asked: list, seed: int | None = None) -> list:
     return [counted(f"{title}, {name}", len(asked), shown, make, algorithm, asked, seed)
             for name, make in processors.items()]
 
 
-def plain_left_out():
+def plain_left_out() -> tuple[int, list[str]]:
     return report_left_out({f"XXH{name}": every_length.left_out(every_length.cases(name), ONE_BY_ONE.stop,
                                                                 int(name) // 2 * every_length.UNROLLED[name])
                             for name in every_length.UNROLLED})
 
 
-def xxh3_left_out():
+def xxh3_left_out() -> tuple[int, list[str]]:
     """Returns the lengths without a case. The length PREFETCHED of a default or derived secret has a separate task."""
     derived = every_length.left_out(every_length.cases("3-64:seed"), MORE.stop, 64 * every_length.DERIVED)
     own = every_length.left_out(every_length.of_secret(), 241, 64 * every_length.DERIVED)
@@ -281,36 +281,36 @@ def xxh3_left_out():
                             "a derived secret": sorted({*derived} - {every_length.PREFETCHED})})
 
 
-def report_left_out(found):
+def report_left_out(found: dict[str, list[int]]) -> tuple[int, list[str]]:
     return len(found), [f"{name}: no task has {left[:5]}" for name, left in found.items() if left]
 
 
-def shown(make, algorithm, asked, seed):
+def shown(make: Callable, algorithm: str, asked: list, seed: int | None) -> tuple[int, list[str]]:
     proof = every_length.EveryLength(make(), algorithm)
     return count_shown(proof, [functools.partial(proof.show, case, seed) for case in asked])
 
 
-def secrets_left_out(processors, is_all):
+def secrets_left_out(processors: Mapping[str, Callable], is_all: bool) -> tuple[int, list[str]]:
     """The same for lengths with secrets of any length."""
     proof = any_secret.AnySecret(next(iter(processors.values()))())
     found = list(coverage.without_one_shot(proof.cases(), proof.facts, COVERED[is_all]))
     return COVERED[is_all], [f"no case has {point}" for point in found[:5]]
 
 
-def any_secrets(make, algorithm, step):
+def any_secrets(make: Callable, algorithm: str, step: int) -> tuple[int, list[str]]:
     hash_name, _, way = algorithm.partition(":")
     proof = any_secret.AnySecret(make())
     return count_shown(proof, proof.queries(way, hash_name[2:])[::step])
 
 
-def up_to_240(make, algorithm):
+def up_to_240(make: Callable, algorithm: str) -> tuple[int, list[str]]:
     proof = every_length.EveryLength(make(), algorithm)
     return count_shown(proof, [functools.partial(proof.show_short, n) for n in range(241)])
 
 
 # ---- the other calls
 
-def of_each(processors, title, least, call, *more):
+def of_each(processors: Mapping[str, Callable], title: str, least: int, call: Callable, *more: object) -> Task:
     """Returns a task that calls a function on each processor. The function returns its number of cases, or raises."""
     return counted(title, least * len(processors),
                    lambda: (sum(call(make(), *more) for make in processors.values()), []))
@@ -329,21 +329,21 @@ def call_tasks(texts, processors, is_all):
             twin_task(texts), frames_task(texts)]
 
 
-def twin_task(texts):
+def twin_task(texts: Mapping[str, Loaded]) -> Task:
     return counted("names of another's code", 9 * len(texts),
                    lambda: (sum(exports.expect_twins(program) for program in texts.values()), []))
 
 
-def frames_task(texts, least=FEWEST_FRAMED):
+def frames_task(texts: Mapping[str, Loaded], least: int = FEWEST_FRAMED) -> Task:
     """Returns the task of unwinding tables: a minimum number of instructions per source."""
     return counted("the frame at each instruction", least * len(texts),
                    lambda: (sum(map(expect_frames, texts.values())), []))
 
 
-def generated_secrets(cpu, asked):
+def generated_secrets(cpu: Processor, asked: list[tuple[int, int]]) -> int:
     return calls.generated_secrets(cpu, asked) + long_seeds.generated_secrets(cpu, OF_LONG_SEEDS)
 
 
-def assembler_task(sources):
+def assembler_task(sources: list[tuple[str, str]]) -> Task:
     """Returns the task that compares each source's objects by three assemblers."""
     return counted("one object by GNU as, clang and rustc", 2 * len(sources), lambda: (expect_alike(sources), []))

@@ -4,13 +4,14 @@ that may follow, a register stays where it was, or is stored or loaded, exactly 
 
 Stores through another register than the stack pointer aren't followed here."""
 import struct
+from typing import Any
 
 from assembly.eh_frame import Table
 from oracle.symbolic_terms import NotShown, signed
 
 from .instructions import PARTS, VECTORS
-from .object_contents import CODE
-from .objects import Immediate, Register
+from .object_contents import CODE, Loaded
+from .objects import Immediate, Instruction, Register
 
 VECTOR_BYTES = {"x": 16, "y": 32, "z": 64}
 NOTHING, ANYWHERE = (0, 0), (-(1 << 14), 1 << 14)         # bytes that an instruction may change
@@ -50,7 +51,7 @@ class X86:
         return 0, {}, {}, used, changed if is_store else NOTHING
 
 
-def expect_frames(program):
+def expect_frames(program: Loaded) -> int:
     """Checks the table at each reachable instruction. Returns their number."""
     processor, count = getattr(program, "frames", X86), 0
     code = {name for name, head in program.heads.items() if head.flags == CODE}
@@ -65,7 +66,7 @@ def expect_frames(program):
     return count
 
 
-def followed(processor, code, section, table):
+def followed(processor: Any, code: dict[int, Instruction], section: str, table: Table) -> set[int]:
     """Checks a function from its first instruction on. Returns the places of the reachable instructions."""
     if table.at(section, 0) != processor.ENTRY:
         raise NotShown(f"{section}: another frame at its beginning than {processor.ENTRY}")
@@ -86,7 +87,7 @@ def followed(processor, code, section, table):
     return known
 
 
-def difference(processor, x, before, after):
+def difference(processor: Any, x: Instruction, before: tuple[int, dict], after: tuple[int, dict]) -> str | None:
     """Returns how the frame after an instruction differs from the table's, or None."""
     (depth, saved), (low_end, restored) = before, after
     lowered, stored, loaded, changed, (first, end) = processor.effect(x)

@@ -4,10 +4,13 @@ An Address is a sum of objects' unknown addresses and an offset, so that the dif
 is a number. An object's address is only known to be nonzero and aligned. Values that are computed here and not by
 operations.py are also compared at the points."""
 import contextlib
+from typing import Any
 
-from oracle.symbolic_terms import (BINARY, Node, Poly, Undecided, WrongRule, as_word, constant_of, divided, is_natural,
-                                   lifted, minus, nodes, ones, operations, parts_of, plus, symbol, wrapped, zeros_below)
+from oracle.symbolic_terms import (BINARY, Node, Poly, Undecided, Value, WrongRule, as_word, constant_of, divided,
+                                   is_natural, lifted, minus, nodes, ones, operations, parts_of, plus, symbol, wrapped,
+                                   zeros_below)
 
+Cpu = Any                         # a Runner of processor.py, which imports this file
 WORD = 64
 HALF, WHOLE = 1 << 63, 1 << 64
 
@@ -70,11 +73,11 @@ class Either:
         raise Undecided(f"{self.numbers} below 2 ^ {first}")
 
 
-def address(memory, at=0):
+def address(memory: Any, at: int | Poly = 0) -> Address:
     return Address(((memory, 1),), at)
 
 
-def place_of(x):
+def place_of(x: Value) -> tuple[Any, Any]:
     """Returns (object, offset) of an address. Raises if x is a number."""
     if not isinstance(x, Address):
         raise Undecided(f"{x} as an address")
@@ -83,7 +86,7 @@ def place_of(x):
 
 # ---- addition and subtraction of addresses
 
-def combined(a, b, sign):
+def combined(a: Value, b: Value, sign: int) -> Value:
     """Returns a + sign * b, if one is an address."""
     if isinstance(b, int):
         return Address(a.bases, near_zero(plus(a.offset, sign * b)))
@@ -91,7 +94,7 @@ def combined(a, b, sign):
     return Address(bases, near_zero(offset)) if bases else wrapped(offset, WORD)
 
 
-def sum_of(a, b, sign):
+def sum_of(a: Value, b: Value, sign: int) -> tuple[tuple, Value]:
     """Returns the bases and the offset of a + sign * b."""
     bases = {}
     for x, count in ((a, 1), (b, sign)):
@@ -104,13 +107,13 @@ def sum_of(a, b, sign):
     return left, plus(*offsets) if sign > 0 else minus(*offsets)
 
 
-def near_zero(offset):
+def near_zero(offset: int | Poly) -> Value:
     """Returns an equal offset modulo 2 ^ 64 whose constant is from -2 ^ 63 to 2 ^ 63 - 1."""
     c = constant_of(offset)
     return plus(offset, (c + HALF) % WHOLE - HALF - c)
 
 
-def low_bits(a, mask):
+def low_bits(a: Address, mask: int) -> Value:
     """Returns the address's known low bits under a mask, from its object's alignment."""
     memory, at = a.place()
     if mask & mask + 1 or memory.alignment % (mask + 1):
@@ -124,7 +127,7 @@ quotients = nodes.memo()     # number of a term that is a shifted polynomial -> 
 halves = nodes.memo()        # number of a 64-bit term -> (its low bits, computed separately; their number)
 
 
-def arithmetic(word, width, a, b):
+def arithmetic(word: str, width: int, a: Value, b: Value) -> Value:
     """Returns an operation's result on two values, modulo 2 ^ width."""
     classes = {a.__class__, b.__class__}
     if word in ("xor", "and") and isinstance(a, int):
@@ -143,20 +146,20 @@ def arithmetic(word, width, a, b):
     return answer
 
 
-def with_half(x, half, width=WORD // 2):
+def with_half(x: Value, half: Value, width: int = WORD // 2) -> Value:
     """Returns x, and records its separately computed low bits if it is a term."""
     if isinstance(x, Node):
         halves[x.number] = half, width
     return x
 
 
-def half_of(x):
+def half_of(x: Value) -> Value:
     """Returns the lower 32 bits of a value, if they were computed separately, or None."""
     half, width = halves.get(x.number, (None, 0)) if isinstance(x, Node) else (None, 0)
     return half if width == WORD // 2 else None
 
 
-def masked(word, a, b):
+def masked(word: str, a: Value, b: Value) -> Either:
     """Applies a mask or a right shift to an Either."""
     if word == "lshr" and isinstance(b, int):
         return a.moved_down(b)
@@ -191,14 +194,14 @@ def with_number(word, width, a, b):
     return BINARY["and"](width, term_of(a, WORD) if b & b + 1 else a, b)
 
 
-def split(x):
+def split(x: Poly) -> tuple[int, Poly, int]:
     """Returns (low bits, rest, z) of a polynomial. The z low bits are concrete: the rest is multiplied by 2 ^ z."""
     z = min(zeros_below(c) for names, c in x.parts.items() if names)
     below = constant_of(x) & ones(z)
     return below, Poly({names: c >> z for names, c in minus(x, below).parts.items()}), z
 
 
-def term_of(x, width):
+def term_of(x: Poly, width: int) -> Value:
     """Returns a polynomial modulo 2 ^ width as a term."""
     below, rest, z = split(x)
     answer = below & ones(width) if z >= width else joined((below, z), (as_word(rest, width - z), width - z))
@@ -209,7 +212,7 @@ def term_of(x, width):
     return answer
 
 
-def low(x, width):
+def low(x: Value, width: int) -> Value:
     """Returns a value modulo 2 ^ width."""
     if isinstance(x, int):
         return x & ones(width)
@@ -227,14 +230,14 @@ def low(x, width):
     return operations.remainder(x, 1 << width) if width > known else half if width == known else bits(half, 0, width)
 
 
-def bits(x, first, n):
+def bits(x: Value, first: int, n: int) -> Value:
     """Returns bits first .. first + n - 1 of a value, as a number or a term. Raises for an address."""
     if isinstance(x, (Address, Either)):
         raise Undecided(f"bits of {x}")
     return operations.bits(lifted(x), first, n)
 
 
-def high_and_low(a, b):
+def high_and_low(a: Value, b: Value) -> tuple[Value, Value]:
     """Returns the upper and the lower word of a product of two words."""
     if not all(isinstance(x, (int, Poly, Node)) for x in (a, b)):
         raise Undecided(f"the product of {a} and {b}")
@@ -242,7 +245,7 @@ def high_and_low(a, b):
     return operations.bits(product, WORD, WORD), operations.bits(product, 0, WORD)
 
 
-def joined(*parts):
+def joined(*parts: tuple[Value, int]) -> Value:
     """Concatenates values, each as (value, width), the lowest bits first."""
     some = [part for part in parts if part[1]]
     if len(some) == 1:
@@ -252,5 +255,5 @@ def joined(*parts):
     return operations.side_by_side(*((lifted(x), width) for x, width in some))
 
 
-def is_term(*values):
+def is_term(*values: Value) -> bool:
     return any(isinstance(x, Node) for x in values)

@@ -12,7 +12,7 @@ stripes (stripes.py), and those for chunks that don't fit in the buffer (xxh3_st
 import collections
 import functools
 import itertools
-from typing import Any, Callable
+from typing import Any, Callable, Iterable, Iterator
 
 from oracle.symbolic_terms import (LONGEST, LONGEST_SECRET, RUNS, Bytes, NotShown, Piece, at_most, given, is_natural,
                                    is_same, is_same_number, minus, nodes, plus, same, suppositions, times, variable)
@@ -49,22 +49,21 @@ Pair = tuple[Any, Any]            # a place and the number of buffered bytes
 SHORT_COPIES = (1, 1), (2, 3), (4, 7), (8, 16), (17, 32), (33, 63)
 
 
-def lengths(name, spans):
+def lengths(name: str, spans: Iterable[tuple[int, int]]) -> Iterator[tuple[Any, list]]:
     """Yields (length, facts) for each span: a variable, or a number if the span has one length."""
     for low, high in spans:
         x = variable(name)
         yield (low, []) if low == high else (x, [minus(x, low), at_most(x, high)])
 
 
-def stripes_of(whole, least=1):
+def stripes_of(whole: int, least: int = 1) -> Iterator[tuple[Any, list]]:
     """Yields (stripes, facts) of a buffer of at most `whole` stripes: each number, or a variable if they aren't few."""
     yield from ((g, []) for g in range(least, whole + 1) if whole <= FEW_STRIPES)
     yield from lengths("g", [(least, whole)] * (whole > FEW_STRIPES))
 
 
-def starts(whole, is_split, gs=None):
-    """Yields the nonempty states of a buffer of `whole` stripes: g in it that end within the block, at its end, or
-    behind it."""
+def starts(whole: int, is_split: bool, gs: Iterable[int] | None = None) -> Iterator[Start]:
+    """Yields nonempty states of a buffer of `whole` stripes: g in it that end in the block, at its end or behind it."""
     b, j, q = (variable(name) for name in "bjq")
     for r, of_r in [(0, []), *lengths("r", SHORT_COPIES)]:
         for g, of_g in [(g, []) for g in gs or ()] or stripes_of(whole):
@@ -287,8 +286,7 @@ class Xxh3Updates(Cases):
         self.library.update(*arguments)
 
     def run(self, live, what, parts, *arguments, summaries=(), not_zero=(), **more):
-        """Calls a function by its name, or `what`, with the proofs of loops over stripes, and with summaries of other
-        functions."""
+        """Calls a function by its name, or `what`, with the proofs of loops over stripes, and with summaries."""
         cpu, family = self.cpu, self.family(*parts)
         cpu.not_zero, cpu.live = not_zero, live
         for summary in summaries:
@@ -445,8 +443,7 @@ class Xxh3Updates(Cases):
             raise NotShown(f"{summary.name}: more than {DEEP} bytes of stack")
 
     def all_taken(self):
-        """Yields the stripes of a block and the secret's further bytes, or None for any number, and arguments of
-        `taken`."""
+        """Yields a block's stripes and the secret's further bytes, or None for any number, and arguments of `taken`."""
         for part, facts in self.of_any_blocks():
             yield ANY, (TAKE, [part], facts)
         for of_q in (at_most(self.q, BLOCK - 1), minus(self.q, BLOCK + 1)):
@@ -529,7 +526,7 @@ class Xxh3Updates(Cases):
                 yield [Part((b, start), front, at), middle, Part(end, rest, (end[0], rest))], []
 
 
-def of_many(parts, least=None):
+def of_many(parts: list[Part], least: int | None = None) -> list:
     """Returns the facts for the number of stripes: `least` or more, or from MANY to FAR - 1."""
     turns = plus(*(part.turns for part in parts))
     return [minus(turns, least)] if least else [minus(turns, MANY), at_most(turns, FAR - 1)]

@@ -1,6 +1,9 @@
 """The hashes on terms, from the specification of xxHash. A message and a secret are functions: byte offset and number
 of bytes -> word, the lowest byte first."""
+from typing import Callable
+
 from .terms import (
+    Term,
     add,
     bitwise,
     constant,
@@ -30,7 +33,7 @@ INITIAL = P32[3], P64[1], P64[2], P64[3], P64[4], P32[2], P64[5], P32[1]
 R = representative
 
 
-def of_bytes(data):
+def of_bytes(data: bytes) -> Callable[[int, int], Term]:
     return lambda at, n: constant(int.from_bytes(data[at : at + n], "little"), 8 * n)
 
 
@@ -254,7 +257,9 @@ def scramble(accumulators, secret, place):
     return [times(xor(x, shift_right(x, 47), secret(place + 8 * i, 8)), P32[1]) for i, x in enumerate(accumulators)]
 
 
-def stripes(accumulators, message, count, secret, size, first=0):
+def stripes(
+    accumulators: list[Term], message: Callable, count: int, secret: Callable, size: int, first: int = 0
+) -> list[Term]:
     """Takes `count` stripes of a message; `first` of the block are taken already."""
     block = (size - 64) // 8
     for k in range(count):
@@ -280,14 +285,21 @@ def merged(accumulators, secret, place, start):
     )
 
 
-def ended(accumulators, message, n, secret, size, width):
+def ended(accumulators: list[Term], message: Callable, n: int, secret: Callable, size: int, width: int) -> list[Term]:
     """The value for accumulators after all stripes but the last."""
     accumulators = accumulate(accumulators, message, n - 64, secret, size - 64 - 7)
     low = merged(accumulators, secret, 11, number(n * P64[1]))
     return [low] if width == 64 else [low, merged(accumulators, secret, size - 64 - 11, number(~(n * P64[2])))]
 
 
-def xxh3(width, message, n, secret, size, seed):
+def xxh3(
+    width: int,
+    message: Callable[[int, int], Term],
+    n: int,
+    secret: Callable[[int, int], Term],
+    size: int,
+    seed: Term | None,
+) -> list[Term]:
     """Returns the words of XXH3 with a secret, of `size` bytes, or with a seed, if that isn't None."""
     if n <= 240:
         secret, seed = (secret, number(0)) if seed is None else (of_bytes(DEFAULT_SECRET), seed)
@@ -296,7 +308,7 @@ def xxh3(width, message, n, secret, size, seed):
     return ended(accumulators, message, n, secret, size, width)
 
 
-def derived(seed):
+def derived(seed: Term) -> Callable[[int, int], Term]:
     """Returns the secret derived from a seed."""
     default, parts = of_bytes(DEFAULT_SECRET), []
     for i in range(12):

@@ -112,7 +112,7 @@ class Processor:
             self.put_bytes(at, x)
             self.writable.append((at, at + x.width // 8))
         self.vectors, self.flags, self.nonzero = {}, None, []
-        self.registers = {name: variable(f"in {name}", 64) for name in REGISTERS}
+        self.registers: dict = {name: variable(f"in {name}", 64) for name in REGISTERS}
 
     def call(self, name, *arguments):
         """Calls a function. Returns rax and rdx."""
@@ -300,7 +300,7 @@ class Processor:
         return self.returns.pop()
 
 
-def width_of(mnemonic, operands):
+def width_of(mnemonic: str, operands: list[str]) -> int:
     """Returns the width of an instruction on words."""
     found = [NAMES[x[1:]][1] for x in operands if x[0] == "%" and x[1:] in NAMES]
     return found[-1] if found else SIZES[mnemonic[-1]]

@@ -164,7 +164,7 @@ def generated(start, length):
     return bytes(out)
 
 
-def compare_vectors(each, longest):
+def compare_vectors(each: int, longest: int) -> int:
     """Compares the definitions with every `each`-th result of the reference library, up to some length."""
     with open(
         os.path.join(os.path.dirname(os.path.dirname(os.path.abspath(__file__))), "vectors.txt"), encoding="utf-8"

@@ -3,6 +3,7 @@ identities, and each result is compared with its operation at the points. If two
 points, z3 decides whether they are equal; what lies deeper is a variable then."""
 import random
 import sys
+from typing import Iterable
 
 sys.path.append("/usr/lib/python3/dist-packages")  # Debian's z3, also for another Python
 import z3
@@ -29,7 +30,7 @@ table, by_values, asked = {}, {}, []
 uncut = {HALF}  # whose lower half stays one, since its upper half may join it again, as in a scramble
 
 
-def begin(is_cut):
+def begin(is_cut: bool) -> None:
     """Forgets all terms. If `is_cut`, the lower half of a sum or a product is that of its operands' lower halves."""
     uncut.clear()
     uncut.update(() if is_cut else {HALF})
@@ -38,7 +39,7 @@ def begin(is_cut):
     asked.clear()
 
 
-def ones(width):
+def ones(width: int) -> int:
     return (1 << width) - 1
 
 
@@ -52,12 +53,12 @@ def new_term(op, width, values, *parts):
     return table[key]
 
 
-def constant(value, width):
+def constant(value: int, width: int) -> Term:
     value &= ones(width)
     return new_term("constant", width, [value] * POINTS, value)
 
 
-def variable(name, width):
+def variable(name: str, width: int) -> Term:
     key = "variable", width, (name,)
     return (
         table[key]
@@ -79,7 +80,7 @@ def at_points(operation, *terms):
 # ---- parts of words
 
 
-def cut(x, first, n):
+def cut(x: Term, first: int, n: int) -> Term:
     """Returns bits first .. first + n - 1."""
     return checked(cut_of(x, first, n), n, [v >> first for v in x.values])
 
@@ -108,7 +109,7 @@ def cut_of(x, first, n):
     return new_term("cut", n, [v >> first & ones(n) for v in x.values], x, first)
 
 
-def join(*parts):
+def join(*parts: Term) -> Term:
     """Joins words, the lowest first."""
     flat = []
     for x in (y for part in parts for y in (part.parts if part.op == "join" else (part,))):
@@ -132,24 +133,24 @@ def join(*parts):
     return checked(flat[0] if len(flat) == 1 else new_term("join", width, values, *flat), width, values)
 
 
-def widened(x, width):
+def widened(x: Term, width: int) -> Term:
     return x if width == x.width else join(x, constant(0, width - x.width))
 
 
-def shift_left(x, k):
+def shift_left(x: Term, k: int) -> Term:
     return x if not k else constant(0, x.width) if k >= x.width else join(constant(0, k), cut(x, 0, x.width - k))
 
 
-def shift_right(x, k):
+def shift_right(x: Term, k: int) -> Term:
     return x if not k else constant(0, x.width) if k >= x.width else join(cut(x, k, x.width - k), constant(0, k))
 
 
-def rotate_left(x, k):
+def rotate_left(x: Term, k: int) -> Term:
     k %= x.width
     return x if not k else join(cut(x, x.width - k, k), cut(x, 0, x.width - k))
 
 
-def swapped(x):
+def swapped(x: Term) -> Term:
     return join(*(cut(x, k, 8) for k in range(x.width - 8, -8, -8)))
 
 
@@ -158,7 +159,7 @@ def swapped(x):
 NUMBERS = {"and": lambda a, b: a & b, "or": lambda a, b: a | b, "xor": lambda a, b: a ^ b}
 
 
-def bitwise(op, a, b, *more):
+def bitwise(op: str, a: Term, b: Term, *more: Term) -> Term:
     if more:
         return bitwise(op, bitwise(op, a, b), *more)
     return checked(bitwise_of(op, a, b), a.width, at_points(NUMBERS[op], a, b))
@@ -231,7 +232,7 @@ def beside(a, b):
     return join(*out)
 
 
-def total(width, terms, number=0):
+def total(width: int, terms: Iterable[tuple[Term, int]], number: int = 0) -> Term:
     """Returns a sum of products with numbers."""
     flat, values = {}, [number] * POINTS
     for x, c in terms:
@@ -281,15 +282,15 @@ def united(flat, width):
             flat[whole.number] = whole, flat.get(whole.number, (whole, 0))[1] + c & ones(64)
 
 
-def add(*terms):
+def add(*terms: Term) -> Term:
     return total(terms[0].width, [(x, 1) for x in terms])
 
 
-def subtract(a, b):
+def subtract(a: Term, b: Term) -> Term:
     return total(a.width, [(a, 1), (b, -1)])
 
 
-def multiply(a, b):
+def multiply(a: Term, b: Term) -> Term:
     if a.op == "constant" or b.op == "constant":
         a, b = (b, a) if a.op == "constant" else (a, b)
         return total(a.width, [(a, b.parts[0])])
@@ -297,7 +298,7 @@ def multiply(a, b):
     return new_term("product", a.width, [v & ones(a.width) for v in at_points(lambda x, y: x * y, a, b)], a, b)
 
 
-def product(a, b):
+def product(a: Term, b: Term) -> tuple[Term, Term]:
     """Returns the low and the high word of a product."""
     whole = multiply(widened(a, 2 * a.width), widened(b, 2 * b.width))
     return multiply(a, b), cut(whole, a.width, a.width)
@@ -306,7 +307,7 @@ def product(a, b):
 # ---- equality
 
 
-def representative(x):
+def representative(x: Term) -> Term:
     """Returns the first known term that equals this one, as z3 shows, or this one."""
     if x.op in ("constant", "variable"):
         return x
@@ -352,7 +353,7 @@ def in_z3(x, level, names):
     return out
 
 
-def expect_equal(what, ours, theirs):
+def expect_equal(what: str, ours: Term, theirs: Term) -> None:
     """Raises if two terms aren't shown to be equal."""
     if ours is theirs:
         return

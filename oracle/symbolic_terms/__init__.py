@@ -2,7 +2,7 @@
 from .definition import Bytes, suppositions
 from .induction import Induction, moved, same, step_between
 from .memory import RUNS, Input, Memory, Piece, in_order, is_inside, is_within, outside, taken
-from .nodes import NODES, OPAQUE, SYMBOL, Node, WrongRule, is_same, symbol
+from .nodes import NODES, OPAQUE, SYMBOL, Node, Value, WrongRule, is_same, symbol
 from .polynomials import (Poly, as_word, at_most, constant_of, divided, given, is_natural, is_number, is_same_number,
                           lifted, minus, names_of, parts_of, plus, times, value_at, variable, wrapped)
 from .refusals import REFUSALS, NotShown, Undecided, Unsupported
@@ -15,4 +15,4 @@ __all__ = ["Bytes", "suppositions", "Induction", "moved", "same", "step_between"
            "is_same", "symbol", "Poly", "as_word", "at_most", "constant_of", "divided", "given", "is_natural",
            "is_number", "is_same_number", "lifted", "minus", "names_of", "parts_of", "plus", "times", "value_at",
            "variable", "wrapped", "REFUSALS", "NotShown", "Undecided", "Unsupported", "LONGEST", "LONGEST_SECRET",
-           "TOP", "Request", "seed_symbol", "ones", "zeros_below", "BINARY", "TESTS", "signed"]
+           "TOP", "Request", "seed_symbol", "ones", "zeros_below", "BINARY", "TESTS", "signed", "Value"]

@@ -1,5 +1,8 @@
 """The proofs for c/include/xxhash.h: every form of its code, compared with the definition."""
+from typing import Callable
+
 from . import comparison, every_length, header_calls as calls, plain_streams, xxh3_streams
+from .machine import Module
 from .reference import FORMS, of_reference
 from .refusals import NotShown
 
@@ -25,7 +28,7 @@ def short_algorithms():
     yield from ((name, way) for name in every_length.XXH3 for way in DERIVED)
 
 
-def short(module, algorithm):
+def short(module: Module, algorithm: str) -> int:
     """Compares every length below the first of the induction, of one kind. Returns the number of values, or raises."""
     name, _, way = algorithm.partition(":")
     requests = comparison.requests(name, way or "seed", None, range(SHORT[name]))
@@ -38,7 +41,7 @@ def short(module, algorithm):
 # ---- the proofs: (title, function of a module and a kind, kind, form)
 
 
-def proofs(is_all):
+def proofs(is_all: bool) -> list[tuple[str, Callable, str, str]]:
     """Returns the proofs of all values, and of refusals."""
     return [*of_hashes(is_all), *of_calls(), *of_secrets(is_all)]
 

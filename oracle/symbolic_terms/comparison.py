@@ -1,5 +1,5 @@
 """Compares both sides for one length after another: for all bytes, all seeds and all bytes of a secret."""
-from typing import Any
+from typing import Callable, Iterable, Iterator, Mapping
 
 from . import definition, nodes
 from .refusals import REFUSALS
@@ -8,34 +8,34 @@ from .nodes import WrongRule
 
 MOST_NODES = 1_500_000
 SECRETS = 136, 137, 143, 144, 192, 256
-PLAIN: list[tuple[str, str, Any]] = [("32", "seed", None), ("64", "seed", None)]
+PLAIN: list[tuple[str, str, int | None]] = [("32", "seed", None), ("64", "seed", None)]
 EDGES_FROM, LONGEST = 1101, 10_241
 
-def algorithms(secrets) -> list[tuple[str, str, Any]]:
+def algorithms(secrets: tuple[int, ...]) -> list[tuple[str, str, int | None]]:
     """Returns the algorithms: (hash, variant, length of the secret)."""
     of_secret = [(way, n) for way in ("secret", "both") for n in secrets]
     ways = [("default", None), ("seed", None), *of_secret]
     return PLAIN + [(name, *way) for name in ("3-64", "3-128") for way in ways]
 
 
-def title_of(hash_name, variant, secret):
+def title_of(hash_name: str, variant: str, secret: int | None) -> str:
     return f"XXH{hash_name}, {variant}" + (f" of {secret} bytes" if secret else "")
 
 
-def edges(secret_length):
+def edges(secret_length: int | None) -> list[int]:
     """Returns lengths above 1,100 at the edges of blocks."""
     block = 64 * (((secret_length or 192) - 64) // 8)
     ends = [b * block + d for b in range(1, LONGEST // block + 1) for d in (0, 1)]
     return sorted({n for n in [*ends, 2048, 2049, 4096, 4097, LONGEST - 1, LONGEST] if EDGES_FROM <= n <= LONGEST})
 
 
-def requests(hash_name, variant, secret_length, lengths):
+def requests(hash_name: str, variant: str, secret_length: int | None, lengths: Iterable[int]) -> Iterator[Request]:
     for length in lengths:
         request = Request(hash_name, variant, length, secret_length)
         yield from [request, *request.with_seed_0()]
 
 
-def complaint(request, name, ours, theirs):
+def complaint(request: Request, name: str, ours: nodes.Value, theirs: nodes.Value) -> str:
     """Returns the message if the definition's term differs from another side's."""
     found = differing_point(request, ours, theirs)
     if not found:
@@ -46,9 +46,8 @@ def complaint(request, name, ours, theirs):
     return f"{request}: {x:#x} by the definition and {y:#x} by {name}, where {shown}"
 
 
-def compare(sides, asked):
-    """Compares requests. `sides` maps a name to a function of a request. Returns how many values equal the definition's
-    term, and the messages on the others."""
+def compare(sides: Mapping[str, Callable], asked: Iterable[Request]) -> tuple[int, list[str]]:
+    """Compares requests of `sides`, name -> function. Returns how many values equal the definition's, and messages."""
     texts, equal, complaints = {}, 0, []
     nodes.forget()
     entries = definition.program().run()
@@ -66,7 +65,7 @@ def compare(sides, asked):
     return equal, complaints
 
 
-def difference(request, name, ours, ask):
+def difference(request: Request, name: str, ours: nodes.Value, ask: Callable) -> str | None:
     """Returns the message on a side's value, or None if it equals the definition's term."""
     try:
         theirs = ask(request)

@@ -1,5 +1,6 @@
 """Chooses where to cut the message of a stream into chunks."""
 import random
+from typing import Iterable, Iterator
 
 from .requests import Request
 
@@ -62,7 +63,7 @@ CUTS = [
 PAIRS = 6
 
 
-def cuts_of(length):
+def cuts_of(length: int) -> list:
     """Returns the cuts for streams of a length: none, one or two of the edges, counted from the start and from the
     end."""
     ends = sorted({end for end in [*CUTS, *(length - end for end in CUTS), 0, length] if 0 <= end <= length})
@@ -71,7 +72,7 @@ def cuts_of(length):
     return [[], *([end] for end in ends), *pairs]
 
 
-def streams(hash_name, variant, secret_length, lengths):
+def streams(hash_name: str, variant: str, secret_length: int | None, lengths: Iterable[int]) -> Iterator[Request]:
     """Yields the requests of streams of some lengths, with all their cuts."""
     for length in lengths:
         for cuts in cuts_of(length):

@@ -1,13 +1,13 @@
 """The definition's side: antt.py parses the unchanged files in specs/ and evaluates them symbolically.
 
-This module extends antt.py with subtraction of symbolic numbers, messages as lists, and, for induction, assumed values
-of calls in a recursion."""
+Extends antt.py with subtraction of symbolic numbers, messages as lists and, for induction, assumed values of calls."""
 import functools
+from typing import Callable
 
 from oracle import antt, specs
 
 from . import operations
-from .nodes import WrongRule, is_same, memo
+from .nodes import Value, WrongRule, is_same, memo
 from .refusals import Undecided
 from .polynomials import Poly, is_number, is_natural, minus, monus, plus, smaller
 
@@ -45,7 +45,7 @@ class Bytes:
         return plus(self.first, at)
 
 
-def length(xs):
+def length(xs: Bytes | tuple | memoryview) -> Value:
     return xs.length() if isinstance(xs, Bytes) else len(xs)
 
 
@@ -53,7 +53,7 @@ part_terms = memo()           # (symbol, first byte, bytes) -> word
 compared = set()         # (bits, bytes) of words already compared with antt.py's result from single bytes
 
 
-def from_le_bytes(bits, xs):
+def from_le_bytes(bits: int, xs: Bytes | tuple | memoryview) -> Value:
     """Returns a word of bytes. For an input, it consists of bits of the input's symbol."""
     if not isinstance(xs, Bytes):
         return word_of_bytes(bits, xs)
@@ -69,13 +69,13 @@ def from_le_bytes(bits, xs):
     return part_terms[key]
 
 
-def subtract(a, b):
+def subtract(a: Value, b: Value) -> Value:
     if is_number(a) and is_number(b):
         return natural_minus(a, b) if isinstance(a, int) and isinstance(b, int) else monus(a, b)
     return operations.monus(operations.lifted(a), operations.lifted(b))
 
 
-def least(a, b):
+def least(a: Value, b: Value) -> Value:
     return smaller(a, b) if isinstance(a, Poly) or isinstance(b, Poly) else min(a, b)
 
 
@@ -131,8 +131,7 @@ class Suppositions:
             self.depth -= 1
 
     def identity(self, x):
-        """Returns a key that is equal only for the same object, the same number, or a function with the same code and
-        values."""
+        """Returns a key that is equal only for the same object or number, or a function of the same code and values."""
         if isinstance(x, (int, str)):
             return x
         if isinstance(x, Poly):
@@ -149,7 +148,7 @@ suppositions = Suppositions()
 plain_noted = antt.noted
 
 
-def noted(function, definition, traced):
+def noted(function: Callable, definition: antt.Definition, traced: "set | Suppositions | None") -> Callable:
     """Overrides antt.py's hook that wraps each function: `traced` is a set of definitions, or these assumptions."""
     if traced is not suppositions:
         return plain_noted(function, definition, traced)
@@ -172,7 +171,7 @@ class Named(antt.Definitions):
         return self.modules[path].definitions[own]
 
 
-def read(crates=(), entries=()):
+def read(crates: tuple[str, ...] = (), entries: tuple[str, ...] = ()) -> antt.Program:
     """Returns the definitions, with those of further crates. Callers that change the text need their own copy."""
     return antt.Program(Named(specs.TOP, [*specs.CRATES, *crates]), [*ENTRIES, *entries])
 
@@ -180,7 +179,7 @@ def read(crates=(), entries=()):
 program = functools.cache(read)      # the same, read once
 
 
-def value(entries, hash_name, variant, seed, secret, message):
+def value(entries: dict, hash_name: str, variant: str, seed: Value, secret: Value, message: Value) -> Value:
     """Returns the definition's value, by the rule of table.Case.ask: `variant` is seed, default, secret or both."""
     entry = entries[specs.HASHES[hash_name]]
     if hash_name in ("32", "64"):

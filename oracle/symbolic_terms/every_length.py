@@ -3,18 +3,21 @@
 A length is a polynomial. XXH32 and XXH64: n = stripe * a + r, r a number. XXH3 above 240 bytes: n = 64 q B + 64 J + t +
 1, B blocks of q stripes, J < q stripes of the last block, t < 64. A custom secret has 64 + 8 q + u bytes, q >= 9, u <
 8. Without one, the call of the function for long inputs is checked."""
-from typing import Any
+from typing import Any, Callable
 
 from . import definition, nodes
 from .definition import Bytes, suppositions
-from .header_names import names_of
+from .header_names import Names, names_of
 from .loops import Loop, Loops
+from .machine import Module
 from .refusals import NotShown
 from .requests import LONGEST, LONGEST_SECRET, seed_symbol
 from .memory import Input, Memory
-from .nodes import Node, symbol
+from .nodes import Node, Value, symbol
 from .operations import side_by_side
 from .polynomials import agree, at_most, divided, given, is_same_number, minus, plus, Poly, times, variable
+
+from oracle.antt import Program
 
 SHORTEST_SECRET_STRIPES = 9  # stripes of a block, with a secret of 136 bytes
 DEFAULT_SECRET, DEFAULT_STRIPES = 192, 16  # its bytes, and the stripes of a block with it
@@ -24,7 +27,7 @@ XXH3 = "3-64", "3-128"
 ALGORITHMS = ["32", "64"] + [f"{name}:{way}" for name in XXH3 for way in WAYS]
 
 
-def shortest(algorithm):
+def shortest(algorithm: str) -> int:
     """Returns the shortest length that the induction proves; shorter ones are compared one by one."""
     return {"32": 16, "64": 32}.get(algorithm, 0 if algorithm.endswith(OWN_SECRET) else 241)
 
@@ -190,7 +193,17 @@ class Proof:
             raise NotShown(f"{what}: another value")
 
 
-def plain_loop(names, name, accumulator, seed, message, last, width, first=0, cells=None):
+def plain_loop(
+    names: Names,
+    name: str,
+    accumulator: Callable,
+    seed: Value,
+    message: Bytes,
+    last: Value,
+    width: int,
+    first: Value = 0,
+    cells: list | None = None,
+) -> Callable:
     """Returns a function that describes the loop over stripes: after k iterations the accumulators are the words after
     first + k stripes. They are in `cells`, in an array, or in four variables."""
 
@@ -212,7 +225,7 @@ def plain_loop(names, name, accumulator, seed, message, last, width, first=0, ce
     return describe
 
 
-def xxh3_loop(after, name, last, cells, place):
+def xxh3_loop(after: Callable, name: str, last: Value, cells: list, place: Callable) -> Loop:
     """Describes a loop of XXH3: after k iterations the accumulators are the words after place(k) stripes."""
     return Loop(
         name,
@@ -224,11 +237,13 @@ def xxh3_loop(after, name, last, cells, place):
     )
 
 
-def cells_at(address):
+def cells_at(address: tuple[Memory, int]) -> list[tuple[Memory, int]]:
     return [(address[0], plus(address[1], 8 * i)) for i in range(8)]
 
 
-def long_loops(names, accumulator_after, q, B, J, secret, message):
+def long_loops(
+    names: Names, accumulator_after: Callable, q: Value, B: Value, J: Value, secret: Bytes, message: Bytes
+) -> dict[str, Callable]:
     """Describes the loop over blocks, and the one over a block's stripes if their number is symbolic. The definition
     scrambles with the last stripe of a block, the library after it, so that stripe is the loop's last iteration."""
 
@@ -254,7 +269,7 @@ def long_loops(names, accumulator_after, q, B, J, secret, message):
     return {names.blocks: blocks, names.stripes: stripes}
 
 
-def show(module, algorithm, program=None):
+def show(module: Module, algorithm: str, program: Program | None = None) -> Proof:
     """Proves an algorithm for every length from shortest(algorithm) on. Returns the Proof, or raises. `program` is the
     definition, if it is changed."""
     proof = Proof(module, program)

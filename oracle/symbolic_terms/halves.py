@@ -10,13 +10,13 @@ For halves a0, a1, b0, b1 below 2 ^ 32, a = a0 + 2^32 a1 and b = b0 + 2^32 b1:
 crates/symbolic_rules proves both. The canonical form of a product doesn't show its factors, so this module records the
 operations that produced each value."""
 from . import operations, rules
-from .nodes import Node, WrongRule, is_same, memo, most_of, use
+from .nodes import Node, Value, WrongRule, is_same, memo, most_of, use
 
 WORD, HALF = 64, 32
 givers = memo()  # number of a node -> the 64-bit operations that produced it: (name, a, b)
 
 
-def noted(name, a, b, answer):
+def noted(name: str, a: Value, b: Value, answer: Value) -> Value:
     """Records a 64-bit operation, add, mul, and, or, shl or lshr, and returns its result. After the last step of such a
     product, the result is a term with that product."""
     if not isinstance(answer, Node):

@@ -6,6 +6,7 @@ import itertools
 from . import definition, nodes
 from .definition import Bytes, suppositions
 from .every_length import DEFAULT_STRIPES, Proof, long_loops
+from .machine import Module
 from .memory import Input, Memory
 from .nodes import is_same, symbol
 from .operations import bits
@@ -56,7 +57,7 @@ def symbols_in(memory_name, size, word=8):
 # ---- canonical forms and comparisons
 
 
-def canonical_forms(module, name):
+def canonical_forms(module: Module, name: str) -> int:
     """The conversion of a hash to bytes, the highest first, and back."""
     module.reset()
     width, size = CANONICAL[name], CANONICAL[name] // 8
@@ -72,7 +73,7 @@ def canonical_forms(module, name):
     return 2
 
 
-def equal_hashes(module, _case):
+def equal_hashes(module: Module, _case: str) -> int:
     """Equal hashes, and hashes that differ in the low word, in the high word, or in both."""
     one, others = [symbol(f"word {k}", 64) for k in (0, 1)], [symbol(f"other {k}", 64) for k in (0, 1)]
     for differs in itertools.product((False, True), repeat=2):
@@ -91,7 +92,7 @@ def in_order(name, sign):
     return {1: (above, word), 0: (word, word), -1: (word, above)}[sign]
 
 
-def order_of_hashes(module, _case):
+def order_of_hashes(module: Module, _case: str) -> int:
     """Each word of the first hash above, equal to, and below the second hash's word."""
     values = {1: 1, 0: 0, -1: (1 << 32) - 1}
     for high, low in itertools.product(values, values):
@@ -106,12 +107,12 @@ def order_of_hashes(module, _case):
 # ---- the version, another name, copies
 
 
-def version(module, _case):
+def version(module: Module, _case: str) -> int:
     expect("XXH_versionNumber", call(module, "XXH_versionNumber"), VERSION)
     return 1
 
 
-def another_name(module, _case):
+def another_name(module: Module, _case: str) -> int:
     """XXH128 is one call of XXH3_128bits_withSeed with its arguments, for an input of any length."""
     module.reset()
     n, seed, value = variable("n"), seed_symbol("3-128"), (symbol("low", 64), symbol("high", 64))
@@ -128,7 +129,7 @@ def another_name(module, _case):
     return 1
 
 
-def copies(module, algorithm):
+def copies(module: Module, algorithm: str) -> int:
     """A copy has all bytes of its original, which stays as it was."""
     module.reset()
     original, copy = symbols_in("original", ALGORITHMS[algorithm]), Memory("copy", ALGORITHMS[algorithm])
@@ -151,7 +152,7 @@ def reset_state(module, algorithm):
     return state
 
 
-def created_states(module, algorithm):
+def created_states(module: Module, algorithm: str) -> int:
     """A state in a block at each residue modulo 64 that malloc returns, or null if it does. The state has the content
     of one that was reset, and is freed as the block."""
     for residue in range(ALIGNMENT if algorithm == "XXH3" else 1):
@@ -187,7 +188,7 @@ def expect_created(algorithm, blocks, memory, start, residue, state):
         raise NotShown(f"{algorithm}_createState: another state than that of a reset")
 
 
-def freed_null(module, algorithm):
+def freed_null(module: Module, algorithm: str) -> int:
     """A release of null does nothing, or is C's release of null."""
     module.reset()
     freed = []
@@ -201,7 +202,7 @@ def freed_null(module, algorithm):
 # ---- secrets
 
 
-def derived_secret(module, _case):
+def derived_secret(module: Module, _case: str) -> int:
     """The 192 bytes of the secret derived from a seed."""
     entries = definition.program().run()
     for seed in (seed_symbol("3-64"), 0):
@@ -220,7 +221,7 @@ def generated(module, entries, size, seed, is_null=False):
     expect_bytes(f"a secret of {size} bytes from {seed.end}", memory, entries["generated_secret"](seed, size))
 
 
-def generated_secrets(module, case):
+def generated_secrets(module: Module, case: str) -> int:
     """Secrets of some sizes, generated from null and from seeds of 0 to 240 bytes. `case` has the first and the last
     size, the first length and the step between lengths."""
     first, last, shortest, step = map(int, case.split())
@@ -237,7 +238,7 @@ def generated_secrets(module, case):
     return count
 
 
-def generated_from_long(module, case):
+def generated_from_long(module: Module, case: str) -> int:
     """Secrets of the sizes of `case`, up to 241 bytes, generated from seeds of every length from 241 on: by induction
     over the loops of their hash."""
     sizes, blocks, rest = [*map(int, case.split())], variable("B"), variable("t")
@@ -256,7 +257,7 @@ def generated_from_long(module, case):
 # ---- refusals
 
 
-def refused_secrets(module, _case):
+def refused_secrets(module: Module, _case: str) -> int:
     """Generated secrets of each size that is too short, into null, and from null as more than 0 bytes: nothing is
     written."""
     size, length = variable("size"), variable("length")
@@ -274,7 +275,7 @@ def refused_secrets(module, _case):
     return len(cases)
 
 
-def refused_resets(module, width):
+def refused_resets(module: Module, width: str) -> int:
     """Resets of null, with null as a secret, and with a secret of each length that is too short: the state stays."""
     size, seed, state = variable("size"), seed_symbol("3-64"), symbols_in("state", ALGORITHMS["XXH3"])
     large, place = plus(size, SHORTEST), (state, 0)
@@ -295,7 +296,7 @@ def joined(value):
     return value if isinstance(value, tuple) else (value,)
 
 
-def refused_one_shots(module, width):
+def refused_one_shots(module: Module, width: str) -> int:
     """One-shots with a secret of each length that is too short: 0 if it is needed, otherwise the seed's hash."""
     n, size, seed = variable("n"), variable("size"), seed_symbol("3-64")
     name, secret, both = f"XXH3_{width}bits", Input("s", size), "_withSecretandSeed"
@@ -313,7 +314,7 @@ def refused_one_shots(module, width):
     return len(cases)
 
 
-def null_inputs(module, _case):
+def null_inputs(module: Module, _case: str) -> int:
     """One-shots of no bytes at null: the value of no bytes elsewhere."""
     seed, secret = seed_symbol("3-64"), ((Input("s", SHORTEST), 0), SHORTEST)
     cases: list[tuple] = [("XXH32", seed_symbol("32")), ("XXH64", seed)]

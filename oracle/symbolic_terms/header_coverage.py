@@ -1,7 +1,9 @@
 """Checks that each public function of c/include/xxhash.h has a proof, which calls it."""
 import re
+from typing import Callable
 
 from . import every_length, header_calls, plain_streams, xxh3_streams
+from .machine import Module
 from .reference import PREFIX
 
 DEFINED = re.compile(r"define (?!internal ).*?@(\w+)\(")
@@ -38,7 +40,7 @@ def compared(show, case):
     return {PREFIX + name for name in names}
 
 
-def proved(show, case, module):
+def proved(show: Callable, case: str, module: Module) -> tuple[str, list[str]]:
     """Runs a proof. Returns the counts, and messages on functions that it should have called."""
     found = show(module, case)
     left = [name for name in sorted(compared(show, case)) if f"@{name}" not in module.called]
@@ -51,12 +53,12 @@ def without_proof(proofs, names):
     return names - {name for _, show, case, _ in proofs for name in compared(show, case)}
 
 
-def all_compared(proofs, module):
+def all_compared(proofs: list[tuple], module: Module) -> tuple[str, list[str]]:
     names = public_functions(module.lines)
     return f"{len(names)} functions", [f"no task compares {name}" for name in sorted(without_proof(proofs, names))]
 
 
-def planted(proofs, module):
+def planted(proofs: list[tuple], module: Module) -> tuple[str, list[str]]:
     """Checks that a function is missed if its proofs are taken away, or if it is new."""
     names, bad = public_functions(module.lines), []
     for taken in sorted(names):

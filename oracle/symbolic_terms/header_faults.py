@@ -1,6 +1,7 @@
 """Planted faults in c/include/xxhash.h, at least one for each branch, which must be refused; and equivalent changes."""
 import functools
 import os
+from typing import Callable, Iterator
 
 from . import every_length, header_calls as calls, plain_streams, xxh3_streams
 from .c_header import short
@@ -361,7 +362,7 @@ def judge(faults, headers, _module):
     return f"{len(faults)} changes", bad
 
 
-def planted(is_all, headers):
+def planted(is_all: bool, headers: str) -> Iterator[tuple[str, Callable]]:
     """Yields the tasks of planted faults: (title, function of a module)."""
     chosen = FAULTS if is_all else FAULTS[::FAULTS_IN_CI]
     for first in range(0, len(chosen), PER_TASK):

@@ -2,6 +2,7 @@
 others. Many of them differ only at lengths that no test can reach."""
 import os
 import tempfile
+from typing import Callable, Iterable, Iterator
 
 from . import every_length, plain_streams, xxh3_streams
 from .refusals import REFUSALS
@@ -145,7 +146,7 @@ DEAR = [
 ]
 
 
-def changed(header, function, old, new):
+def changed(header: str, function: str, old: str, new: str) -> str:
     """Returns the header with a text in a function's body replaced."""
     start = header.index(function)
     while ";" in header[start : header.index("{", start)]:  # a declaration or a call
@@ -154,7 +155,7 @@ def changed(header, function, old, new):
     return header[:at] + new + header[at + len(old) :]
 
 
-def outcome(header, show, case, vector="scalar"):
+def outcome(header: str, show: Callable, case: str, vector: str = "scalar") -> str | None:
     """Returns the refusal of a header, or None if the kind is proved."""
     with tempfile.TemporaryDirectory(prefix="symbolic-") as workdir:
         with open(os.path.join(workdir, "xxhash.h"), "w", encoding="utf-8") as file:
@@ -167,7 +168,7 @@ def outcome(header, show, case, vector="scalar"):
     return None
 
 
-def report(changes):
+def report(changes: Iterable[tuple]) -> Iterator[tuple[bool, str]]:
     """Yields for each change and kind: whether it has the expected result, and a line."""
     with open(os.path.join(HEADERS, "xxhash.h"), encoding="utf-8") as file:
         header = file.read()

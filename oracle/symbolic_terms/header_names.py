@@ -1,6 +1,6 @@
 """Names inside the headers that are read: functions with loops, their variables, and types of states. Symbolic
 execution finds loops and accumulators by them. A wrong name can only make it fail."""
-from typing import NamedTuple
+from typing import Any, NamedTuple
 
 
 class Names(NamedTuple):
@@ -65,5 +65,5 @@ OURS = Names(
 )
 
 
-def names_of(module):
+def names_of(module: Any) -> "Names":
     return OURS if OURS.stripes in module.functions else REFERENCE

@@ -8,13 +8,13 @@ violates this becomes unset, if it may, and the turn runs again.
 loops.py has the states for LLVM code, ../machine_code/induction.py and wasm/induction.py for assembly and modules."""
 from typing import Callable
 
-from .polynomials import agree, given, is_number, is_same_number, minus, plus, times, variable
+from .polynomials import Poly, Value, agree, given, is_number, is_same_number, minus, plus, times, variable
 from .refusals import NotShown
 
 
 # ---- values: a number, a term, an address, or a tuple whose last part advances
 
-def same(a, b):
+def same(a: Value, b: Value) -> bool:
     if isinstance(a, tuple) and isinstance(b, tuple):
         return len(a) == len(b) and all(map(same, a, b))
     if hasattr(type(a), "bases") and hasattr(type(b), "bases"):
@@ -22,7 +22,7 @@ def same(a, b):
     return a is b or agree(a, b)
 
 
-def step_between(old, now):
+def step_between(old: Value, now: Value) -> Value:
     """Returns by how much a number or an address has advanced, or None."""
     if isinstance(old, tuple) and isinstance(now, tuple):
         goes_on = len(old) == len(now) == 2 and (old[0] is now[0] or old[0] == now[0])
@@ -32,7 +32,7 @@ def step_between(old, now):
     return minus(now, old) if is_number(old) and is_number(now) else None
 
 
-def moved(x, step, k):
+def moved(x: Value, step: int | Poly, k: int | Poly) -> Value:
     """Returns a value advanced by k steps."""
     if isinstance(x, tuple):
         return *x[:-1], moved(x[-1], step, k)

@@ -8,6 +8,7 @@ from typing import Any
 
 from .refusals import Unsupported
 from .modular import signed
+from .nodes import Value
 
 TOKEN = re.compile(r'c"[^"]*"|"[^"]*"|[%@][-\w.$]+|-?\d+|[\w.]+|\.\.\.|[][(){}<>,*=]|![\w.]*|#\d+')
 ATTRIBUTES = {
@@ -287,7 +288,7 @@ class Reader:
         return [(0, t.size(), self.operand(t).value)]
 
 
-def place_of(t, address, *steps):
+def place_of(t: Any, address: tuple, *steps: Value) -> tuple[Any, Value]:
     """Returns the result of getelementptr. The steps are signed numbers."""
     memory, at = address
     for k, index in enumerate(steps):
@@ -323,7 +324,7 @@ PATTERNS = {
 }
 
 
-def instruction(module, line):
+def instruction(module: Any, line: str) -> tuple[str | None, str, tuple]:
     """Returns an instruction: (target or None, operation, parts)."""
     reader, target = Reader(module, line), None
     if reader.tokens[1:2] == ["="]:
@@ -386,7 +387,7 @@ def read_alloca(reader, target):
     return target, t.size(), alignment_of(reader)
 
 
-def alignment_of(reader):
+def alignment_of(reader: "Reader") -> int:
     """Returns the number after `align`, or 1."""
     rest = reader.tokens[reader.at :]
     return int(rest[rest.index("align") + 1]) if "align" in rest else 1

@@ -5,6 +5,7 @@ values at the start. A cell that a first iteration changes advances by a step, o
 reading it is an error. No other live cell may change. The loop is left after the last iteration. A loop head is a block
 to which a function jumps back."""
 from .induction import Induction, moved
+from .machine import Function
 from .nodes import is_same, symbol
 from .polynomials import given, is_natural, minus, variable
 from .polynomials import is_same_number
@@ -43,7 +44,7 @@ def reached(after, first, without=None):
     return seen
 
 
-def loops_of(function):
+def loops_of(function: Function) -> dict[str, set[str]]:
     """Maps each loop head to the blocks of the loop. A head is on each path to a block that jumps back to it."""
     if not hasattr(function, "loops"):
         after, function.loops = successors(function), {}

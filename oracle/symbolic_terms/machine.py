@@ -17,7 +17,7 @@ from .llvm_text import (
     place_of,
 )
 from .memory import Input, Memory, taken
-from .nodes import Node, symbol
+from .nodes import Node, Value, symbol
 from .operations import bits, side_by_side
 from .polynomials import Poly, constant_of, is_natural, is_number, lifted, minus, plus
 from .refusals import Undecided, Unsupported
@@ -212,7 +212,7 @@ def intrinsic(name, arguments):
     raise Unsupported(name)
 
 
-def copy(to, source, n):
+def copy(to: Value, source: Value, n: Value) -> None:
     """Performs memcpy. A copy of symbolic length, or to an area that keeps runs, is stored as a run of an input."""
     (memory, at), (source, first) = pointed(to), pointed(source)
     area = memory.run_area
@@ -294,6 +294,8 @@ OPERATIONS: dict[str, Callable] = {
 
 class Function:
     """A function of a module: blocks of instructions, by label."""
+
+    loops: dict[str, set[str]]  # of loops.py
 
     def __init__(self, module, lines):
         head = Reader(module, lines[0][len("define ") :])

@@ -2,10 +2,12 @@
 
 An address is (object, offset). Offsets and lengths may be polynomials. Each access must be provably inside its object.
 Loading a byte that was never stored is an error."""
+from typing import Any, Iterator
+
 from . import operations
 from .refusals import Unsupported
 from .nodes import symbol
-from .polynomials import constant_of, is_natural, is_same_number, minus, plus
+from .polynomials import Poly, constant_of, is_natural, is_same_number, minus, plus
 from .rules import bits_of, from_segments
 
 LONGEST = 1 << 15        # bytes of the window at the start of an input
@@ -18,13 +20,13 @@ class Unset(Unsupported):
     """Raised if a load reads bytes that were never stored."""
 
 
-def is_inside(at, n, length):
+def is_inside(at: int | Poly, n: int | Poly, length: int | Poly) -> bool:
     if isinstance(at, int) and isinstance(n, int) and isinstance(length, int):
         return 0 <= at and at + n <= length
     return is_natural(at) and is_natural(minus(length, plus(at, n)))
 
 
-def is_within(first, end, low, high):
+def is_within(first: int | Poly, end: int | Poly, low: int | Poly, high: int | Poly) -> bool:
     """True if low <= first and end <= high."""
     return is_natural(minus(first, low)) and is_natural(minus(high, end))
 
@@ -181,8 +183,7 @@ class Memory:
                    for other in self.runs())
 
     def put_run(self, at, n, source, place):
-        """Stores bytes of an input, from `place` on, as a run at an offset. Cells that aren't known to be disjoint
-        become unset: loading them is an error."""
+        """Stores bytes of an input, from `place` on, as a run at an offset. Cells that may overlap become unset."""
         self.check(at, n)
         end = plus(at, n)
         self.cells = {first: cell for first, cell in self.cells.items()
@@ -197,7 +198,7 @@ class Memory:
         self.cells[RUNS] = (*others, (low, high, source, shift))
 
 
-def in_order(a, b):
+def in_order(a: int | Poly, b: int | Poly) -> tuple[int | Poly, int | Poly]:
     """Returns the two, the smaller one first. Raises if the order isn't decided."""
     if is_natural(minus(b, a)):
         return a, b
@@ -206,7 +207,7 @@ def in_order(a, b):
     raise Unsupported(f"the order of {a} and {b}")
 
 
-def outside(run, at, end):
+def outside(run: tuple, at: int | Poly, end: int | Poly) -> list[tuple]:
     """Returns the parts of a run that are known to be outside of at .. end - 1: one before and one behind. If it isn't
     known where the run begins, compared with `end`, the latter begins some bytes later."""
     low, high, source, place = run
@@ -220,7 +221,7 @@ def outside(run, at, end):
     return [(*part, source, place) for part in parts if not is_same_number(*part)]
 
 
-def taken(source, first, n):
+def taken(source: Input | Memory, first: int | Poly, n: int) -> Iterator[tuple[int, int, Any]]:
     """Yields the bytes by 8, or by 1 if some of 8 are unset: (offset, size, value). Omits bytes never stored."""
     for k in range(0, n, 8):
         size = min(8, n - k)

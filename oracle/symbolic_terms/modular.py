@@ -2,8 +2,8 @@
 import contextlib
 
 from . import operations
-from .nodes import SUM, Node
-from .polynomials import divided, is_less, is_number, lifted, minus, plus, times, wrapped
+from .nodes import SUM, Node, Value
+from .polynomials import Poly, divided, is_less, is_number, lifted, minus, plus, times, wrapped
 from .refusals import Undecided
 from .rules import ones
 
@@ -20,7 +20,7 @@ def operator(on_numbers, on_terms, on_polynomials=None):
     return operation
 
 
-def amount(k):
+def amount(k: object) -> int:
     if not isinstance(k, int):
         raise Undecided("the amount of a shift")
     return k
@@ -37,7 +37,7 @@ def xor(width, a, b):
     return operations.xor(a, b)
 
 
-def low_bits(width, a, b):
+def low_bits(width: int, a: int | Poly, b: int | Poly) -> Value:
     """Returns the bitwise and, if one operand is 2 ^ k - 1."""
     if isinstance(a, int):
         a, b = b, a
@@ -71,6 +71,6 @@ TESTS = {"eq": lambda a, b: a == b, "ne": lambda a, b: a != b, "lt": is_less, "g
          "le": lambda a, b: not is_less(b, a), "ge": lambda a, b: not is_less(a, b)}
 
 
-def signed(n, width=64):
+def signed(n: int, width: int = 64) -> int:
     n %= 1 << width
     return n - (1 << width) if n >> width - 1 else n

@@ -15,6 +15,7 @@ import resource
 import signal
 import sys
 import unittest.mock
+from typing import Any, Iterator
 
 from oracle import antt
 from oracle import mutants
@@ -25,8 +26,8 @@ from . import definition, every_length, header_calls, nodes, reference
 from .header_names import OURS, names_of
 from .refusals import REFUSALS, Undecided
 from .requests import Request, differing_point
-from .machine import Function
-from .nodes import Node, WrongRule, values_at
+from .machine import Function, Module
+from .nodes import Node, Value, WrongRule, values_at
 
 BY_LENGTH = 0, 1, 2, 3, 4, 8, 9, 16, 17, 32, 33, 65, 97, 128, 129, 160, 240, 241
 SECONDS = 4  # time limit, after which a change counts as not ending
@@ -53,19 +54,19 @@ class Slow(Exception):
 
 
 @contextlib.contextmanager
-def limits():
+def limits() -> Iterator[None]:
     """Limits the recursion and the memory for changed texts."""
     sys.setrecursionlimit(RECURSION)
     resource.setrlimit(resource.RLIMIT_AS, (MEMORY, MEMORY))
     yield
 
 
-def mark():
+def mark() -> tuple[int, list[int]]:
     """Returns the current size of the tables, for `release`."""
     return len(nodes.NODES), [len(known) for known in nodes.MEMOS]
 
 
-def release(point):
+def release(point: tuple[int, list[int]]) -> None:
     """Forgets the nodes made since `mark`."""
     count, sizes = point
     del nodes.NODES[count:]
@@ -88,13 +89,13 @@ class Limited:
         signal.setitimer(signal.ITIMER_PROF, 0)
 
 
-def differs(request, a, b):
+def differs(request: Request, a: Value, b: Value) -> bool:
     """True if two values differ at one of the points."""
     first, second = (x.values if isinstance(x, Node) else (x,) * nodes.POINTS for x in (a, b))
     return first != second or differing_point(request, a, b) is not None
 
 
-def definition_at(request, entries, point):
+def definition_at(request: Request, entries: dict, point: dict[str, Any]) -> Value:
     """Returns the definition's value of a request at concrete values of the symbols."""
     seed = request.seed() if isinstance(request.seed(), int) else point[request.seed().parts[0]]
     return definition.value(
@@ -172,11 +173,11 @@ class Asked:
         return NOTICED_BY_NUMBERS if differs else f"{CRASH}: {error!r}" if error else REFUSED_WITHOUT_TERM
 
 
-def of_text(module, part, parts):
+def of_text(module: Module, part: int, parts: int) -> list[tuple[str, str]]:
     """Returns (outcome, text) for each change of one token, or for a part of them."""
     nodes.forget()
     program = definition.program()
-    cases = [Asked(request, module) for request in asked()]
+    cases: list = [Asked(request, module) for request in asked()]
     cases += proved_cases.counted_lengths()  # lengths that no request has
     by_definition = mutants.cases_by_definition(program, cases)
     known, out = mark(), []
@@ -271,7 +272,7 @@ def reaching(module, requests):
     return out
 
 
-def of_reference(module, sample, part, parts):
+def of_reference(module: Module, sample: int | None, part: int, parts: int) -> list[tuple[str, str]]:
     """Returns (outcome, text) for a sample of the changes of the LLVM code."""
     nodes.forget()
     requests, entries = asked_of(module), definition.program().run()
@@ -428,7 +429,7 @@ AT_LARGE_LENGTHS = [
 ]
 
 
-def by_induction(module):
+def by_induction(module: Module) -> Iterator[tuple[bool, str]]:
     """Yields for each of these: whether the induction refuses it, and a line."""
     for title, path, old, new, algorithm in AT_LARGE_LENGTHS:
         program = definition.read()
@@ -456,7 +457,7 @@ def with_text(program, path, old, new):
     raise SystemExit(f"no such text: {old}")
 
 
-def by_hand(module):
+def by_hand(module: Module) -> Iterator[tuple[bool, str]]:
     """Yields for each change by hand: whether the result is the expected one, and a line."""
     for path, old, new, hashes, is_equal in BY_HAND:
         nodes.forget()

@@ -10,9 +10,9 @@ A value is a Python int or a Node. Each node has a width, and its value is below
     OPAQUE   any other operation on naturals, by its name and arguments; correct sources never produce one
 
 Each node has its values at POINTS points, computed only from its own structure. Each operation compares its result at
-these points with the operation on its arguments (operations.py), so each use of each rule is tested there.
-"""
+these points with the operation on its arguments (operations.py), so each use of each rule is tested there."""
 import random
+from typing import Any
 
 SYMBOL, BITS, SUM, PRODUCT, OPAQUE = "symbol", "bits", "sum", "product", "opaque"
 POINTS = 2
@@ -41,6 +41,7 @@ class Node:
         return f"<{self.op}{self.width} #{self.number}>"
 
 
+Value = Any                # an int, a Node, a Poly or another word of a processor; mypy would join them to `object`
 NODES, BY_KEY = [], {}
 MEMOS = [BY_KEY]           # dictionaries to clear together with the table
 USED = {}                  # name of a rule -> number of its uses
@@ -49,24 +50,24 @@ EXTREME = bytes([0] * 90 + [255] * 90 + [1] * 20 + [128] * 20 + list(range(220, 
 rng = random.Random(20240229)
 
 
-def memo():
+def memo() -> dict:
     """Returns a dictionary that is cleared together with the table."""
     MEMOS.append({})
     return MEMOS[-1]
 
 
-def use(rule):
+def use(rule: str) -> None:
     USED[rule] = USED.get(rule, 0) + 1
 
 
-def forget():
+def forget() -> None:
     """Forgets all nodes."""
     del NODES[:]
     for known in [*MEMOS, symbol_values]:
         known.clear()
 
 
-def node(op, parts, width, most, constant=0, is_exact=False):
+def node(op: str, parts: tuple, width: int, most: int, constant: int = 0, is_exact: bool = False) -> Node:
     """Returns the node of a structure, made only once. `most` is an upper bound of its value."""
     if op is BITS:
         key: tuple = op, parts
@@ -82,7 +83,7 @@ def node(op, parts, width, most, constant=0, is_exact=False):
     return known
 
 
-def symbol(name, width):
+def symbol(name: str, width: int) -> Value:
     found = BY_KEY.get((SYMBOL, (name,)))
     if found is None:
         return node(SYMBOL, (name,), width, (1 << width) - 1)
@@ -91,18 +92,18 @@ def symbol(name, width):
     return found
 
 
-def values_of_symbol(name, width):
+def values_of_symbol(name: str, width: int) -> tuple:
     """Returns random values. In the second one most bytes are 0 or 255, so that sums have long carries."""
     if name not in symbol_values:
         size = (width + 7) // 8
-        values = [rng.randbytes(size) for _ in range(POINTS)]
+        values: list = [rng.randbytes(size) for _ in range(POINTS)]
         values[1] = values[1].translate(EXTREME)
         numbers = [int.from_bytes(value, "little") % (1 << width) for value in values] if width <= WORD else values
         symbol_values[name] = tuple(numbers)
     return symbol_values[name]
 
 
-def window(value, first, length):
+def window(value: int | bytes, first: int, length: int) -> int:
     """Returns bits first .. first + length - 1 of a number, or of bytes."""
     if isinstance(value, bytes):
         value, first = int.from_bytes(value[first >> 3:first + length + 7 >> 3], "little"), first & 7
@@ -110,10 +111,8 @@ def window(value, first, length):
 
 
 # Semantics of the operations that have no canonical form.
-NATURALS = {
-    "mod": lambda a, b: a % b if b else a, "div": lambda a, b: a // b if b else 0, "and": lambda a, b: a & b,
-    "or": lambda a, b: a | b, "monus": lambda a, b: a - b if a > b else 0,
-}
+NATURALS = {"mod": lambda a, b: a % b if b else a, "div": lambda a, b: a // b if b else 0, "and": lambda a, b: a & b,
+            "or": lambda a, b: a | b, "monus": lambda a, b: a - b if a > b else 0}
 
 
 def meaning(x, value):
@@ -136,7 +135,7 @@ def meaning(x, value):
     return NATURALS[x.parts[0]](*(value(y) for y in x.parts[1:]))
 
 
-def children(x):
+def children(x: Node) -> list[Node]:
     """Returns the nodes inside a node."""
     if x.op is BITS:
         return [NODES[atom] for _, _, atoms in x.parts for atom, _ in atoms]
@@ -145,7 +144,7 @@ def children(x):
     return [y for y in x.parts if isinstance(y, Node)]
 
 
-def values_at(roots, symbols):
+def values_at(roots: list[int | Node], symbols: dict[str, Any]) -> list[int]:
     """Evaluates terms at given values of the symbols."""
     known = {}
 
@@ -164,10 +163,10 @@ def values_at(roots, symbols):
     return [value(x) for x in roots]
 
 
-def most_of(x):
+def most_of(x: int | Node) -> int:
     return x if isinstance(x, int) else x.most
 
 
-def is_same(a, b):
+def is_same(a: object, b: object) -> bool:
     """True if two values are the same term or number."""
     return a is b or isinstance(a, int) and isinstance(b, int) and a == b

@@ -7,7 +7,7 @@ import functools
 from typing import Callable
 
 from . import nodes, rules
-from .nodes import NATURALS, OPAQUE, Node, WrongRule, memo, most_of, node, use, window
+from .nodes import NATURALS, OPAQUE, Node, Value, WrongRule, memo, most_of, node, use, window
 from .refusals import Undecided
 from .polynomials import lifted
 from .rules import bits_of, from_segments, narrow, places, product_at, segments_of, sum_at, xor_segments, zeros_below
@@ -26,7 +26,7 @@ MEANINGS: dict[str, Callable] = {
 }
 
 
-def joined(widths, values):
+def joined(widths: tuple[int, ...], values: tuple[int, ...]) -> int:
     out = at = 0
     for width, x in zip(widths, values):
         out |= x % (1 << width) << at
@@ -34,7 +34,7 @@ def joined(widths, values):
     return out
 
 
-def checked(name, answer, *arguments):
+def checked(name: str, answer: Value, *arguments: int | Node | tuple[int, ...]) -> Value:
     """Returns the result, after a comparison with the operation on numbers."""
     if CHECKED:
         for k in range(nodes.POINTS):
@@ -47,8 +47,7 @@ def checked(name, answer, *arguments):
 
 
 def once(operation):
-    """Decorator that caches an operation's results until the nodes are forgotten. Arguments are equal if they are the
-    same node or the same number."""
+    """Decorator that caches results until the nodes are forgotten. Equal arguments are the same node or number."""
     known = memo()
 
     @functools.wraps(operation)
@@ -61,19 +60,19 @@ def once(operation):
 
 
 @once
-def add(a, b):
+def add(a: int | Node, b: int | Node) -> int | Node:
     width = (most_of(a) + most_of(b)).bit_length()
     return checked("add", sum_at(width, 0, [(1, a), (1, b)]), a, b)
 
 
 @once
-def multiply(a, b):
+def multiply(a: int | Node, b: int | Node) -> int | Node:
     width = (most_of(a) * most_of(b)).bit_length()
     return checked("multiply", product_at(width, [a, b]) if width else 0, a, b)
 
 
 @once
-def monus(a, b):
+def monus(a: int | Node, b: int | Node) -> int | Node:
     """Returns a - b, or 0 if b is greater."""
     if isinstance(a, int) and most_of(b) <= a:
         answer = sum_at(a.bit_length(), a, [(-1, b)])
@@ -83,22 +82,22 @@ def monus(a, b):
 
 
 @once
-def add_at(width, *parts):
+def add_at(width: int, *parts: tuple[int, int | Node]) -> int | Node:
     """Returns the sum of coefficient * value of the parts modulo 2 ^ width."""
     return checked("add_at", sum_at(width, 0, list(parts)), width, tuple(c for c, _ in parts), *(x for _, x in parts))
 
 
 @once
-def multiply_at(width, a, b):
+def multiply_at(width: int, a: int | Node, b: int | Node) -> int | Node:
     return checked("multiply_at", product_at(width, [a, b]), width, a, b)
 
 
-def is_power_of_two(b):
+def is_power_of_two(b: int | Node) -> bool | int:
     return isinstance(b, int) and b and not b & b - 1
 
 
 @once
-def remainder(a, b):
+def remainder(a: int | Node, b: int | Node) -> int | Node:
     if is_power_of_two(b):
         answer = narrow(a, b.bit_length() - 1)
     elif isinstance(b, int) and most_of(a) < b:
@@ -110,7 +109,7 @@ def remainder(a, b):
 
 
 @once
-def quotient(a, b):
+def quotient(a: int | Node, b: int | Node) -> int | Node:
     if is_power_of_two(b):
         return shift_right(a, b.bit_length() - 1)
     if isinstance(b, int) and most_of(a) < b:
@@ -120,14 +119,14 @@ def quotient(a, b):
 
 
 @once
-def shift_right(a, k):
+def shift_right(a: int | Node, k: int) -> int | Node:
     if isinstance(a, int):
         return a >> k
     return checked("shift_right", from_segments(bits_of(a, k, a.width - k)), a, k)
 
 
 @once
-def bits(a, first, n):
+def bits(a: int | Node, first: int, n: int) -> int | Node:
     """Returns bits first .. first + n - 1 of a value, as a number or a term."""
     if isinstance(a, int):
         return window(a, first, n)
@@ -135,28 +134,28 @@ def bits(a, first, n):
 
 
 @once
-def side_by_side(*parts):
+def side_by_side(*parts: tuple[int | Node, int]) -> int | Node:
     """Concatenates values, each as (value, width), the lowest bits first."""
     answer = from_segments([segment for x, width in parts for segment in bits_of(x, 0, width)])
     return checked("side_by_side", answer, tuple(width for _, width in parts), *(x for x, _ in parts))
 
 
 @once
-def xor(a, b):
+def xor(a: int | Node, b: int | Node) -> int | Node:
     use("xor_of_parts")
     use("xor_in_any_order")
     return checked("xor", from_segments(xor_segments(segments_of(a), segments_of(b))), a, b)
 
 
 @once
-def complement(width, a):
+def complement(width: int, a: int | Node) -> int | Node:
     """Returns 2 ^ width - 1 - a, for a below 2 ^ width."""
     use("complement")
     return checked("complement", sum_at(width, rules.ones(width), [(-1, a)]), width, a)
 
 
 @once
-def either(a, b):
+def either(a: int | Node, b: int | Node) -> int | Node:
     """Returns the bitwise or."""
     if isinstance(a, int):
         a, b = b, a
@@ -174,7 +173,7 @@ def either(a, b):
 
 
 @once
-def both(a, b):
+def both(a: int | Node, b: int | Node) -> int | Node:
     """Returns the bitwise and."""
     if isinstance(a, int):
         a, b = b, a
@@ -199,7 +198,7 @@ def masked(a, mask):
     return out
 
 
-def is_below(a, b):
+def is_below(a: int | Node, b: int | Node) -> bool:
     """Returns a < b, if the bounds decide it."""
     if a is b or isinstance(a, int) and most_of(b) <= a:
         return False
@@ -208,7 +207,7 @@ def is_below(a, b):
     raise Undecided(f"{a} < {b}")
 
 
-def is_equal(a, b):
+def is_equal(a: int | Node, b: int | Node) -> bool:
     if a is b:
         return True
     raise Undecided(f"{a} == {b}")

@@ -7,6 +7,7 @@ definition's value and changes nothing."""
 from .definition import Bytes
 from .every_length import Proof, plain_loop
 from .header_names import REFERENCE
+from .machine import Module
 from .refusals import NotShown
 from .requests import LONGEST, seed_symbol
 from .memory import Input, Memory, Piece
@@ -174,7 +175,7 @@ def of_any_length(describe, names):
     )
 
 
-def show(module, algorithm):
+def show(module: Module, algorithm: str) -> PlainStreams:
     """Proves the streams of XXH32 or XXH64. Returns the proof, or raises."""
     streams = PlainStreams(module, int(algorithm))
     streams.reset()

@@ -5,9 +5,10 @@ negative. A comparison is decided if the facts decide it for all values, and is 
 begin at 0. Each positive result is also tested at some points that satisfy the facts."""
 import contextlib
 import random
+from typing import Iterator, Sequence, TypeGuard
 
 from . import nodes, rules
-from .nodes import symbol
+from .nodes import Value, symbol
 from .refusals import Undecided
 
 WORD = 64
@@ -17,7 +18,6 @@ NEAR, STAYS = 100, 0.7        # points drawn near known ones, and the probabilit
 SEARCHED, IN_TURN = 400, 20   # points drawn until one is found, and how many of these use the same choices
 MOVES = 40                    # steps to move a point to where the facts hold
 CHOICES = (0, 1, 2, 3, 5, 62, 200), (0, 1, 7, 15, 480, 1 << 20, 1 << 32)
-
 SETS = 4000                   # sets of facts whose decisions are kept
 
 facts, least = [], {}         # polynomials >= 0; variable -> its least value
@@ -82,24 +82,24 @@ class Poly:
     def __index__(self): raise Undecided(f"{self} as an index")
 
 
-def variable(name):
+def variable(name: str) -> Value:
     return Poly({(name,): 1})
 
 
-def is_number(x):
+def is_number(x: object) -> TypeGuard[int | Poly]:
     return isinstance(x, (int, Poly))
 
 
-def parts_of(x):
+def parts_of(x: int | Poly) -> dict[tuple[str, ...], int]:
     return x.parts if isinstance(x, Poly) else {(): x} if x else {}
 
 
-def polynomial(parts):
+def polynomial(parts: dict[tuple[str, ...], int]) -> Value:
     parts = {names: c for names, c in parts.items() if c}
     return Poly(parts) if any(parts) else parts.get((), 0)
 
 
-def plus(*terms):
+def plus(*terms: int | Poly) -> Value:
     if len(terms) == 2:
         a, b = terms
         if a.__class__ is int:
@@ -122,7 +122,7 @@ def with_constant(x, c):
     return Poly(parts)
 
 
-def minus(a, b):
+def minus(a: int | Poly, b: int | Poly) -> Value:
     """Returns a - b, which may be negative."""
     if isinstance(b, int):
         return plus(a, -b)
@@ -132,7 +132,7 @@ def minus(a, b):
     return polynomial(out)
 
 
-def times(a, b):
+def times(a: int | Poly, b: int | Poly) -> Value:
     if isinstance(a, int) and isinstance(b, int):
         return a * b
     out = {}
@@ -143,18 +143,18 @@ def times(a, b):
     return polynomial(out)
 
 
-def constant_of(x):
+def constant_of(x: int | Poly) -> int:
     return parts_of(x).get((), 0)
 
 
-def is_same_number(a, b):
+def is_same_number(a: object, b: object) -> bool:
     return is_number(a) and is_number(b) and parts_of(a) == parts_of(b)
 
 
 # ---- facts
 
 @contextlib.contextmanager
-def given(*more):
+def given(*more: int | Poly) -> Iterator[None]:
     """Context manager that adds facts. A fact `v - c` makes the variable v begin at c."""
     global under
     size, bounds, around = len(facts), dict(least), under
@@ -181,12 +181,12 @@ def suppose(fact):
         raise Undecided("facts that can't be")
 
 
-def at_most(x, bound):
+def at_most(x: int | Poly, bound: int | Poly) -> Value:
     """Returns the fact x <= bound."""
     return minus(bound, x)
 
 
-def value_at(x, point):
+def value_at(x: int | Poly, point: dict[str, int]) -> int:
     out = 0
     for names, c in parts_of(x).items():
         for name in names:
@@ -195,11 +195,11 @@ def value_at(x, point):
     return out
 
 
-def names_of(*polynomials):
+def names_of(*polynomials: int | Poly) -> set[str]:
     return {name for x in polynomials for names in parts_of(x) for name in names}
 
 
-def points_for(x):
+def points_for(x: int | Poly) -> Iterator[dict[str, int]]:
     """Yields points that satisfy the facts, with values for the variables of x."""
     names = sorted(names_of(x) - names_of(*facts))
     for number, point in enumerate(under.points):
@@ -222,7 +222,7 @@ def decided_under(around):
     return decided[key]
 
 
-def random_points(names, rng, around, attempts):
+def random_points(names: list[str], rng: random.Random, around: Sequence[dict[str, int]], attempts: int) -> list[dict]:
     """Returns points that satisfy the facts, near to the points `around` if there are any."""
     found = []
     for attempt in range(attempts):
@@ -237,7 +237,7 @@ def random_points(names, rng, around, attempts):
     return found
 
 
-def moved(point, rng):
+def moved(point: dict[str, int], rng: random.Random) -> dict[str, int] | None:
     """Moves a point, one variable after another, until it satisfies the facts. Returns None if that fails."""
     for _ in range(MOVES):
         broken = [(fact, value) for fact in facts if (value := value_at(fact, point)) < 0]
@@ -252,7 +252,7 @@ def moved(point, rng):
     return None
 
 
-def from_zero(x):
+def from_zero(x: int | Poly) -> dict[tuple[str, ...], int]:
     """Returns x in variables that begin at 0, as its parts."""
     out = 0
     for names, c in parts_of(x).items():
@@ -262,7 +262,7 @@ def from_zero(x):
     return parts_of(out)
 
 
-def is_natural(x):
+def is_natural(x: int | Poly) -> bool:
     """True if x >= 0 for all values that the facts allow."""
     if isinstance(x, int):
         return x >= 0
@@ -276,7 +276,7 @@ def is_natural(x):
     return under.answers[key]
 
 
-def without(names, product):
+def without(names: tuple[str, ...], product: tuple[str, ...]) -> tuple[str, ...] | None:
     """Returns the variables of a product without some of them, or None."""
     out = list(product)
     for name in names:
@@ -286,7 +286,7 @@ def without(names, product):
     return tuple(out)
 
 
-def is_sum_of_facts(x, zero_based, depth):
+def is_sum_of_facts(x: dict[tuple[str, ...], int], zero_based: list[dict[tuple[str, ...], int]], depth: int) -> bool:
     """True if x is a sum of monomials and of facts times monomials: removes a negative part by a fact that has it."""
     negative = [names for names, c in x.items() if c < 0]
     if not negative:
@@ -302,7 +302,7 @@ def is_sum_of_facts(x, zero_based, depth):
     return False
 
 
-def taken_away(x, fact, part, scale, rest):
+def taken_away(x: dict, fact: dict, part: tuple[str, ...], scale: int, rest: tuple[str, ...]) -> dict:
     """Returns scale * x - |coefficient of part| * rest * fact, which doesn't contain `part`."""
     out = {names: scale * c for names, c in x.items()}
     for names, c in fact.items():
@@ -311,29 +311,29 @@ def taken_away(x, fact, part, scale, rest):
     return {names: c for names, c in out.items() if c}
 
 
-def is_below(a, b):
+def is_below(a: int | Poly, b: int | Poly) -> bool | None:
     """Returns a < b, or None if the facts don't decide it."""
     if is_natural(minus(minus(b, a), 1)):
         return True
     return False if is_natural(minus(a, b)) else None
 
 
-def is_less(a, b):
+def is_less(a: int | Poly, b: int | Poly) -> bool:
     answer = is_below(a, b)
     if answer is None:
         raise Undecided(f"{a} < {b}")
     return answer
 
 
-def smaller(a, b):
+def smaller(a: int | Poly, b: int | Poly) -> Value:
     return a if is_less(a, plus(b, 1)) else b
 
 
-def monus(a, b):
+def monus(a: int | Poly, b: int | Poly) -> Value:
     return 0 if is_less(a, b) else minus(a, b)
 
 
-def divided(a, b):
+def divided(a: int | Poly, b: int | Poly) -> tuple[Value, Value]:
     """Returns quotient and remainder: guessed, then proved."""
     if is_same_number(b, 0):
         raise Undecided(f"{a} / {b}")
@@ -355,7 +355,7 @@ def quotients(a, b):
         yield from (plus(guess, more) for more in (0, -1, 1))
 
 
-def remainder(a, b):
+def remainder(a: int | Poly, b: int | Poly) -> Value:
     with contextlib.suppress(Undecided):
         return divided(a, b)[1]
     if isinstance(b, int) and b and not b & b - 1 and b <= 1 << WORD:
@@ -365,7 +365,7 @@ def remainder(a, b):
 
 # ---- polynomials as words
 
-def wrapped(x, width):
+def wrapped(x: int | Poly, width: int) -> Value:
     """Returns x modulo 2 ^ width as a polynomial."""
     for more in (0, 1 << width, -1 << width):
         y = plus(x, more)
@@ -374,13 +374,13 @@ def wrapped(x, width):
     raise Undecided(f"{x} may leave {width} bits")
 
 
-def as_word(x, width):
+def as_word(x: int | Poly, width: int) -> Value:
     """Returns x modulo 2 ^ width as a term. A product of variables is a symbol for the product modulo 2 ^ 64."""
     parts = [(c, symbol("*".join(names), WORD)) for names, c in parts_of(x).items() if names]
     return rules.sum_at(width, constant_of(x), parts)
 
 
-def lifted(x):
+def lifted(x: Value) -> Value:
     """Returns a polynomial, which must be below 2 ^ 64, as a term. Returns other values unchanged."""
     if not isinstance(x, Poly):
         return x
@@ -389,7 +389,7 @@ def lifted(x):
     return as_word(x, WORD)
 
 
-def agree(a, b):
+def agree(a: object, b: object) -> bool:
     """True if two values, or tuples of values, are the same."""
     if isinstance(a, tuple) and isinstance(b, tuple):
         return len(a) == len(b) and all(x is y or agree(x, y) for x, y in zip(a, b))

@@ -1,5 +1,6 @@
 """Prints the term of a request step by step, as each side computes it."""
 from . import definition, nodes, reference
+from .machine import Module
 from .nodes import BITS, NODES, PRODUCT, SUM, SYMBOL, Node
 from .requests import Request
 
@@ -70,7 +71,7 @@ def steps(value):
     return [*lines, f"value = {names.get(value.number) or shown(value, names)}"]
 
 
-def show(module, hash_name, length):
+def show(module: Module, hash_name: str, length: int) -> list[tuple[str, list[str]]]:
     """Returns the lines of both sides, each from an empty table, with a symbolic seed."""
     out = []
     request = Request(hash_name, "seed", length)

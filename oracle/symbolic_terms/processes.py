@@ -1,5 +1,4 @@
-"""Runs the tasks of a check, each in its own process and several at once, prints their results, and parses the check's
-options."""
+"""Runs the tasks of a check, each in its own process and several at once, prints their results, and parses options."""
 import argparse
 import concurrent.futures
 import gc
@@ -29,7 +28,7 @@ class Task:
         self.is_deep = is_deep     # deep recursions need a thread with a large stack; time limits need the main thread
 
 
-def options(description, jobs=2):
+def options(description: str | None, jobs: int = 2) -> argparse.ArgumentParser:
     """Returns a parser of a check's options: --all, --only WORD, --skip NUMBER and --jobs NUMBER."""
     out = argparse.ArgumentParser(description=description, formatter_class=argparse.RawDescriptionHelpFormatter)
     out.add_argument("--all", action="store_true", help="run all cases")
@@ -39,12 +38,12 @@ def options(description, jobs=2):
     return out
 
 
-def chosen(tasks, given):
+def chosen(tasks: list, given: argparse.Namespace) -> list:
     """Returns the tasks that the options ask for."""
     return [task for task in tasks if given.only in task.title][given.skip:]
 
 
-def run(tasks, jobs):
+def run(tasks: list[Task], jobs: int) -> int:
     """Runs the tasks and prints their results. Returns the exit status. The processes share the parsed definitions."""
     began, passed = time.monotonic(), 0
     definition.program().run()
@@ -59,12 +58,12 @@ def run(tasks, jobs):
     return 1 if passed < len(tasks) or not tasks else 0
 
 
-def processor_time(of):
+def processor_time(of: int) -> float:
     used = resource.getrusage(of)
     return used.ru_utime + used.ru_stime
 
 
-def in_process(task):
+def in_process(task: Task) -> tuple[str, bool]:
     """Runs a task. Returns its output, and whether it passed. A process that is killed fails."""
     with STARTING:     # so that no other process inherits the pipe's end
         ours, theirs = FORK.Pipe(duplex=False)
@@ -79,7 +78,7 @@ def in_process(task):
     return report or (f"FAILED {task.title}: its process ended with status {process.exitcode}", False)
 
 
-def answer(task, pipe):
+def answer(task: Task, pipe: "multiprocessing.connection.Connection") -> None:
     began = time.monotonic()
     if task.is_deep:
         what, bad = antt.with_deep_recursion(outcome, task)
@@ -92,7 +91,7 @@ def answer(task, pipe):
     pipe.send(("\n".join(lines), not bad))
 
 
-def outcome(task):
+def outcome(task: Task) -> tuple[str, list[str]]:
     try:
         return task.ask()
     except (*REFUSALS, WrongRule) as error:

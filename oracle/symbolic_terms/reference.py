@@ -9,7 +9,8 @@ from checks.lib import tools
 
 from .machine import Module
 from .memory import Memory
-from .nodes import Node
+from .nodes import Node, Value
+from .requests import Request
 
 FOLDER = os.path.dirname(os.path.abspath(__file__))
 HEADERS = "/usr/include"  # folder of Debian's libxxhash-dev
@@ -30,7 +31,7 @@ DEBIAN_PYTHON = "/usr/lib/python3/dist-packages"
 BESIDE = 512  # bytes around a chunk within which streams compare addresses
 
 
-def install(headers, with_solver):
+def install(headers: str, with_solver: bool) -> None:
     """Installs missing packages: clang, Debian's header if it is used, and z3."""
     is_there = {
         CLANG: shutil.which(CLANG),
@@ -40,12 +41,12 @@ def install(headers, with_solver):
     tools.install({package for package, there in is_there.items() if not there})
 
 
-def is_ours(headers):
+def is_ours(headers: str) -> bool:
     with open(f"{headers}/xxhash.h", encoding="utf-8") as file:
         return MARK in file.read()
 
 
-def llvm_text(headers=HEADERS, vector="scalar"):
+def llvm_text(headers: str = HEADERS, vector: str = "scalar") -> str:
     """Returns the LLVM code of the header in a folder, written by clang's front end without optimiser: of ours, all
     public functions. The header is copied to a separate folder: clang ignores `-I /usr/include`, and could use a header
     of another folder."""
@@ -74,11 +75,11 @@ def llvm_text(headers=HEADERS, vector="scalar"):
             return file.read()
 
 
-def module(headers=HEADERS, vector="scalar"):
+def module(headers: str = HEADERS, vector: str = "scalar") -> Module:
     return Module(llvm_text(headers, vector))
 
 
-def release_of(headers):
+def release_of(headers: str) -> tuple[str, str]:
     """Returns the header's version, and its SHA-256."""
     with open(f"{headers}/xxhash.h", "rb") as file:
         text = file.read()
@@ -90,7 +91,7 @@ def release_of(headers):
     return ".".join(numbers), hashlib.sha256(text).hexdigest()
 
 
-def of_reference(request, module):
+def of_reference(request: Request, module: Module) -> Value:
     """Returns the library's result. Assumes that a symbolic seed is nonzero; with_seed_0 has that case."""
     seed, out = request.seed(), Memory("out", 16)
     arguments = [(request.message, 0), request.length]

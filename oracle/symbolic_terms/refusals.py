@@ -2,8 +2,7 @@
 
 
 class Unsupported(Exception):
-    """Raised for text or an operation that isn't supported, or that a program mustn't do, such as an access outside of
-    an object."""
+    """Raised for text or an operation that isn't supported, or that a program mustn't do, such as a stray access."""
 
 
 class Undecided(Exception):

@@ -5,13 +5,13 @@ import random
 from . import definition
 from .definition import Bytes
 from .memory import Input
-from .nodes import symbol, values_at
+from .nodes import Node, Value, symbol, values_at
 
 TOP = os.path.dirname(os.path.dirname(os.path.dirname(os.path.abspath(__file__))))
 LONGEST, LONGEST_SECRET = (1 << 64) - 1, 1 << 60        # maximum bytes of a message and of a secret
 
 
-def seed_symbol(hash_name):
+def seed_symbol(hash_name: str) -> Value:
     return symbol("seed32", 32) if hash_name == "32" else symbol("seed64", 64)
 
 
@@ -66,7 +66,7 @@ class Request:
                    "seed64": rng.getrandbits(64)}
 
 
-def differing_point(request, a, b, count=20):
+def differing_point(request: Request, a: int | Node, b: int | Node, count: int = 20) -> tuple[dict, int, int] | None:
     """Returns (symbols, value of a, value of b) at a point where two terms differ, or None if none is found."""
     for point in request.points(count, random.Random(7)):
         x, y = values_at([a, b], point)

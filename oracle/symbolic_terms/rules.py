@@ -15,7 +15,7 @@ Each rule has its name there; `use` counts its uses here. For naturals, with wid
 
 The rules of operations.py are xor_in_any_order, bits_apart, mask, union_with_ones, complement (used here for a part of
 a sum too), and small_remainder."""
-from .nodes import BITS, NODES, OPAQUE, PRODUCT, SUM, SYMBOL, Node, memo, node, use
+from .nodes import BITS, NODES, OPAQUE, PRODUCT, SUM, SYMBOL, Node, Value, memo, node, use
 
 SPLIT_AT = 64            # bits of a sum from this one on are split off the parts of the sum above it
 STANDARD = (64, 128)     # widths to which sums and products are narrowed
@@ -23,24 +23,24 @@ STANDARD = (64, 128)     # widths to which sums and products are narrowed
 bits_memo, sum_memo = memo(), memo()
 
 
-def ones(n):
+def ones(n: int) -> int:
     return (1 << n) - 1
 
 
-def zeros_below(c):
+def zeros_below(c: int) -> int:
     """Returns the number of trailing 0 bits of c."""
     return (c & -c).bit_length() - 1
 
 
 # ---- segments
 
-def segments_of(x):
+def segments_of(x: int | Node) -> tuple[tuple[int, int, tuple], ...]:
     if isinstance(x, int):
         return ((x.bit_length(), x, ()),) if x else ()
     return x.segments
 
 
-def from_segments(segments):
+def from_segments(segments: list | tuple) -> Value:
     """Returns the value of segments. Joins neighbours that continue each other, and drops zeros at the top."""
     out = []
     for segment in segments:
@@ -65,7 +65,7 @@ def from_segments(segments):
     return node(BITS, tuple(out), width, most)
 
 
-def drop_zeros(segments):
+def drop_zeros(segments: list[tuple[int, int, tuple]]) -> None:
     """Removes the zeros at the top."""
     while segments and not segments[-1][2]:
         length, constant, _ = segments.pop()
@@ -74,7 +74,7 @@ def drop_zeros(segments):
             return
 
 
-def joined_with(low, high):
+def joined_with(low: tuple[int, int, tuple], high: tuple[int, int, tuple]) -> tuple[int, int, tuple] | None:
     """Returns two neighbouring segments joined, or None."""
     (n, constant, atoms), (m, above, others) = low, high
     if len(atoms) != len(others):
@@ -99,7 +99,7 @@ def lower_neighbours(atoms, n):
     return tuple(sorted(out))
 
 
-def xor_segments(a, b):
+def xor_segments(a: list | tuple, b: list | tuple) -> list[tuple[int, int, tuple]]:
     """Returns the xor of two values, segment by segment (xor_of_parts)."""
     out, a, b = [], list(reversed(a)), list(reversed(b))
     while a and b:
@@ -114,23 +114,23 @@ def xor_segments(a, b):
     return out + list(reversed(a or b))
 
 
-def differing_atoms(a, b):
+def differing_atoms(a: tuple[tuple[int, int], ...], b: tuple[tuple[int, int], ...]) -> tuple[tuple[int, int], ...]:
     return tuple(sorted(set(a) ^ set(b))) if a and b else a or b
 
 
-def cut_segment(segment, first, n):
+def cut_segment(segment: tuple[int, int, tuple], first: int, n: int) -> list[tuple[int, int, tuple]]:
     """Returns bits first .. first + n - 1 of a segment."""
     length, constant, atoms = segment
     if first == 0 and n == length:
         return [segment]
     use("bits_of_bits")
-    out = [(n, constant >> first & ones(n), ())]
+    out: list = [(n, constant >> first & ones(n), ())]
     for atom, at in atoms:
         out = xor_segments(out, bits_of(NODES[atom], at + first, n))
     return out
 
 
-def bits_of(x, first, n):
+def bits_of(x: int | Node, first: int, n: int) -> list[tuple[int, int, tuple]]:
     """Returns bits first .. first + n - 1 of a value, as segments of n bits together."""
     if n <= 0:
         return []
@@ -177,7 +177,7 @@ def bits_of_sum(x, first, n):
     return [(n, 0, ((x.number, first),))]
 
 
-def high_of_a_sum(x, k):
+def high_of_a_sum(x: Node, k: int) -> int | Node | None:
     """Returns x / 2^k if a part of the sum is a multiple of 2^k, else None."""
     above = [(c >> k, y) for c, y in x.parts if not c % (1 << k)]
     if not above and not x.constant >> k:
@@ -190,7 +190,7 @@ def high_of_a_sum(x, k):
     return sum_at(x.width - k, x.constant >> k, above + [(1, high)])
 
 
-def narrow(x, width):
+def narrow(x: int | Node, width: int) -> int | Node:
     """Returns a value modulo 2 ^ width."""
     if isinstance(x, int):
         return x % (1 << width)
@@ -205,7 +205,7 @@ def narrow(x, width):
     return from_segments(bits_of(x, 0, width))
 
 
-def places(x):
+def places(x: int | Node) -> int:
     """Returns a mask of the bits that may be 1."""
     if isinstance(x, int):
         return x
@@ -218,7 +218,7 @@ def places(x):
 
 # ---- sums
 
-def sum_at(width, constant, parts):
+def sum_at(width: int, constant: int, parts: list[tuple[int, Value]] | tuple[tuple[int, Value], ...]) -> Value:
     """Returns (constant + sum of coefficient * value) modulo 2 ^ width."""
     mask = ones(width)
     constant += sum(c * x for c, x in parts if isinstance(x, int))
@@ -250,7 +250,7 @@ def new_sum(width, constant, parts):
                 is_exact)
 
 
-def concatenation(width, constant, parts):
+def concatenation(width: int, constant: int, parts: list[tuple[int, Node]]) -> int | Node | None:
     """Returns the sum as segments if no two of its parts have a common bit, else None."""
     seen = constant
     for c, x in parts:
@@ -260,7 +260,7 @@ def concatenation(width, constant, parts):
         if place & seen or place >> width:
             return None
         seen |= place
-    out = segments_of(constant)
+    out: list | tuple = segments_of(constant)
     for c, x in parts:
         k = zeros_below(c)
         out = xor_segments(out, [(k, 0, ()), *segments_of(x)] if k else segments_of(x))
@@ -391,7 +391,7 @@ def agreeing(runs):
 
 # ---- products
 
-def product_at(width, factors):
+def product_at(width: int, factors: list | tuple) -> int | Node:
     """Returns the product of values modulo 2 ^ width."""
     constant, nodes = 1, []
     for x in factors:

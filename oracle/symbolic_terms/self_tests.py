@@ -9,6 +9,7 @@ import sys
 from oracle import table
 
 from . import comparison, definition, halves, nodes, operations, reference
+from .machine import Module
 from .requests import Request
 from .modular import BINARY
 from .nodes import BITS, NODES, SUM, SYMBOL, Node, most_of, symbol, values_at
@@ -37,7 +38,7 @@ MOST_NODES = 1_000_000
 # ---- the names of the rules
 
 
-def rules_are_proved(module):
+def rules_are_proved(module: Module) -> tuple[str, list[str]]:
     """Checks that each rule named in this folder is the contract of a function in crates/symbolic_rules."""
     with open(os.path.join(table.TOP, "crates", "symbolic_rules", "src", "lib.rt"), encoding="utf-8") as file:
         proved = set(re.findall(r"^pub fn (\w+)\(", file.read(), re.M))
@@ -102,7 +103,7 @@ def random_operation(rng, pool):
     )()
 
 
-def random_operations(module, rounds):
+def random_operations(module: Module | None, rounds: int) -> tuple[str, list[str]]:
     nodes.POINTS, rng, count, bad = MANY_POINTS, random.Random(1), 0, []
     for _ in range(rounds):
         nodes.forget()
@@ -172,7 +173,7 @@ def asked_by(case):
     return Request(name, "secret" if case.seed is None else "both", case.length, case.secret[0])
 
 
-def table_cases(module):
+def table_cases(module: Module) -> tuple[str, list[str]]:
     """Evaluates the reference's terms at the bytes of each case: gcc's compiled code must agree with the header
     here."""
     cases = [case for case in map(table.Case, table.lines()) if case.length <= LONGEST_CASE]
@@ -326,7 +327,7 @@ def key_of(x):
     return ("node", x.number) if isinstance(x, Node) else x
 
 
-def by_solver(module):
+def by_solver(module: Module) -> tuple[str, list[str]]:
     nodes.forget()
     solver, entries = Solver(), definition.program().run()
     operations.watching.append(solver.watch)

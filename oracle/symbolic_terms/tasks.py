@@ -1,4 +1,5 @@
 """Chooses and runs the tasks of oracle/symbolic: the requests, each in its own process, and their results."""
+import argparse
 import collections
 import functools
 import os
@@ -41,7 +42,7 @@ class Task(processes.Task):
         self.vector = vector
 
 
-def choose(given):
+def choose(given: argparse.Namespace) -> list["Task"]:
     tasks = of_c_header(given) if is_ours(given.headers) else of_the_reference(given)
     return processes.chosen(tasks, given)
 
@@ -250,7 +251,7 @@ def of_machinery(is_all, vector, headers):
 # ---- processes
 
 
-def run(tasks, headers, jobs):
+def run(tasks: list["Task"], headers: str, jobs: int) -> int:
     """Runs the tasks, each with its own module. Returns the exit status."""
     texts = {vector: llvm_text(headers, vector) for vector in {task.vector for task in tasks}}
     return processes.run(

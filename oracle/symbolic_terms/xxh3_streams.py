@@ -17,6 +17,7 @@ from .header_names import REFERENCE
 from .refusals import NotShown
 from .requests import LONGEST_SECRET, seed_symbol
 from .loops import loops_of
+from .machine import Module
 from .memory import Input, Memory, Piece
 from .nodes import symbol
 from .operations import side_by_side
@@ -493,7 +494,7 @@ def at_second_time(describe):
     return again
 
 
-def show(module, place):
+def show(module: Module, place: str) -> "Xxh3Streams":
     """Proves the streams of XXH3 whose secret is outside or inside of the state. Returns the proof, or raises."""
     streams = Xxh3Streams(module, place)
     streams.resets()

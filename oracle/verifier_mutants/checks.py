@@ -59,7 +59,7 @@ LENGTHS = 0, 3, 7, 13, 40, 100, 200, 300
 CUTS = [(40, 5), (300, 64, 192), (600, 512, 599), (1100, 64)]
 
 
-def begin():
+def begin() -> None:
     """Forgets the terms and decisions of earlier checks."""
     nodes.forget()
     polynomials.decided.clear()
@@ -111,7 +111,7 @@ def beside_processor(known, first):
     library, program, lines, _ = known.snippets
     cpu, rng = Processor(program, on_processor.processor_here()), random.Random(first)
     whole = ctypes.create_string_buffer(on_processor.SIZE + 64)
-    state = (ctypes.c_ubyte * on_processor.SIZE).from_buffer(whole, -ctypes.addressof(whole) % 64)
+    state: Any = (ctypes.c_ubyte * on_processor.SIZE).from_buffer(whole, -ctypes.addressof(whole) % 64)
     for number in range(first, min(first + GROUP, len(lines))):
         for _ in range(8):
             data = on_processor.inputs(lines[number][0].split()[0], lines[number], rng)

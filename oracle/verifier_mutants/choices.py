@@ -58,7 +58,7 @@ patched = unittest.mock.patch.object
 # ---- the tasks
 
 
-def tasks_with(is_all):
+def tasks_with(is_all: bool) -> list:
     """Returns the tasks on both folders of sources, with their minimum numbers of cases."""
     texts, others = dict.fromkeys(tasks.NAMES), dict.fromkeys(f"cargo's {name}" for name in cargo_tasks.NAMES)
     with patched(tasks, "counted", lambda title, least, *_: types.SimpleNamespace(title=title, least=least)), patched(
@@ -598,7 +598,7 @@ def copied_states(_):
         (lambda *_: None, False),
         (lambda to, source: copy(to, source) or source.place()[0].store(8, 8, 5), False),
     ):
-        cpu = processors.new_processor()
+        cpu: Any = processors.new_processor()
         cpu.call = lambda _, *places, call=call: call(*places)
         expect(calls.copies(cpu), 3, "copies") if is_right else refuses(
             lambda: calls.copies(cpu), "a wrong copy", REFUSALS

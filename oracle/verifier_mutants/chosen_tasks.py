@@ -47,6 +47,7 @@ def shared_processors(_):
 
 def run_choose(is_all, texts):
     """Returns the tasks of c/asm, of which the one of assemblers is only a title."""
+    found: Any
     with patched(tasks, "assembler_task", lambda sources: types.SimpleNamespace(title="assemblers", sources=sources)):
         found = tasks.choose(types.SimpleNamespace(all=is_all), texts)
     expect(found[-1].sources == [(f"{tasks.FOLDER}/{name}.s", "x86-64") for name in texts], True, "assembled sources")
@@ -57,6 +58,8 @@ def steps_of_samples(_):
     """Tests the steps between cases of any secret: 1 with --all, else 5 for the first hash and 7 for the others."""
     names = {"x86-64-v3": "maker 3", "x86-64-v4": "maker 4"}
     counted = lambda title, least, *asked: types.SimpleNamespace(title=title, least=least, asked=asked)
+    first: Any
+    found: Any
     for is_all in (False, True):
         with patched(tasks, "counted", counted), patched(tasks, "of_every_length", lambda *of: []):
             first, *found = tasks.any_secret_tasks(names, is_all, ["3-64:secret", "3-64:both", "3-128:secret"])

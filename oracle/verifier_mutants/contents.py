@@ -64,8 +64,13 @@ def note(*properties, note_type=5, name=b"GNU\0"):
 
 
 def new_object(
-    sections=SECTIONS, symbols=SYMBOLS, notes=note((0xC0000002, 4, 2)), system=(1, 0, 0), flags=0, machine=62
-):
+    sections: list = SECTIONS,
+    symbols: list = SYMBOLS,
+    notes: bytes = note((0xC0000002, 4, 2)),
+    system: tuple[int, int, int] = (1, 0, 0),
+    flags: int = 0,
+    machine: int = 62,
+) -> Any:
     heads, names = (
         [types.SimpleNamespace(**dict(zip(fields, one))) for one in some]
         for some, fields in ((sections, FIELDS), (symbols, PARTS))
@@ -75,7 +80,7 @@ def new_object(
     )
 
 
-def listed(object_):
+def listed(object_: Any) -> None:
     object_contents.expect_listed(object_, EXPORT)
 
 

@@ -546,6 +546,7 @@ def statuses(_):
     used = resource.getrusage(resource.RUSAGE_CHILDREN)
     expect(processes.processor_time(resource.RUSAGE_CHILDREN) == used.ru_utime + used.ru_stime, True, "processor time")
     options = processes.options("text", 3)
+    values: Any
     for values, expected in (([], (False, "", 3)), (["--all", "--only", "a", "--jobs", "5"], (True, "a", 5))):
         found = options.parse_args(values)
         expect((found.all, found.only, found.jobs) == expected, True, "options")

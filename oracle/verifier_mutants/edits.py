@@ -143,7 +143,7 @@ def is_text(node):
     return isinstance(node, ast.Expr) and isinstance(node.value, ast.Constant)
 
 
-def mutants_of(path, short, seed):
+def mutants_of(path: str, short: str, seed: int) -> list[Mutant]:
     """Returns the mutants of a module: all of its decisions, and one of each other line."""
     out, lines = [], collections.defaultdict(list)
     for number, (node, parent, field, _, function) in enumerate(with_places(parsed(path))):
@@ -180,7 +180,7 @@ def written(node):
     return text if len(text) <= 70 else text[:67] + ".."
 
 
-def applied(one, top):
+def applied(one: Mutant, top: str) -> ast.Module:
     """Returns the tree of the module with this mutant."""
     tree = parsed(f"{top}/{one.path}")
     found = next(x for number, x in enumerate(with_places(tree)) if number == one.node)
@@ -195,5 +195,5 @@ def applied(one, top):
     return ast.fix_missing_locations(tree)
 
 
-def title_of(one):
+def title_of(one: Mutant) -> str:
     return f"{one.path} {one.function or 'module'}: {one.before} -> {one.after}"

@@ -185,7 +185,7 @@ def versions(_):
         expect(cpu.calls == [("XXH_versionNumber", ())], True, "calls")
 
 
-def sizes():
+def sizes() -> dict[str, int]:
     return {"3": layouts.STATE.size, "32": 48, "64": 88}
 
 

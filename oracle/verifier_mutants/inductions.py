@@ -8,7 +8,7 @@ from oracle.machine_code import cargo_tasks, coverage, tasks, values, xxh3_state
 from oracle.machine_code.induction import Family, Head, Loops, Proof
 from oracle.machine_code.memory import ENTRY, Stack, WordMemory
 from oracle.machine_code.stripes import LEAST_ENTRY, TAKEN, Part, Stripes, StripesProof, Summary, is_at
-from oracle.machine_code.values import Names, address, joined
+from oracle.machine_code.values import Cpu, Names, address, joined
 from oracle.symbolic_terms import (
     REFUSALS,
     RUNS,
@@ -138,7 +138,7 @@ def records(_):
         )
 
 
-def lost_runs(cpu):
+def lost_runs(cpu: Cpu) -> None:
     """Tests that a state without its buffered bytes, or without its secret, is refused."""
     proof = xxh3_states.OwnSecret(cpu)
     b, j, f = (variable(name) for name in "bjf")
@@ -184,7 +184,7 @@ def tasks_of_streams(_):
         expect(sum(xxh3_updates.STRIPES in title and "-v3," in title for title in titles), of_v3, "tasks of stripes")
 
 
-def last_stripes(cpu):
+def last_stripes(cpu: Cpu) -> None:
     """Tests for which states a case assumes that the buffer ends with the last stripe, and that cases with another
     length, or with stripes of a short message, are refused."""
     assumed: Any
@@ -216,7 +216,7 @@ def last_stripes(cpu):
         expect(assumed.pop(), expected, "last stripes of a state before a digest")
 
 
-def places_of_v4(cpu):
+def places_of_v4(cpu: Cpu) -> None:
     """Tests that the cases of functions that take stripes have blocks and secrets of each kind."""
     proof = xxh3_updates.Xxh3Updates(cpu)
     found = [

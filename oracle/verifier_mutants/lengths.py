@@ -915,6 +915,7 @@ def parts_of_completeness(_):
 
 def read_sources(_):
     """Tests which sources the tasks read, and how."""
+    found: Any
     with patched(tasks, "assembled", lambda *of: of), patched(cargo_tasks, "assembled", lambda *of: of):
         found = tasks.programs()
         expect(

@@ -3,7 +3,7 @@ the crate must return. Each takes a random generator, which it doesn't use, and 
 import itertools
 import types
 import unittest.mock
-from typing import Any
+from typing import Any, Iterable
 
 from oracle.machine_code import any_secret, cargo, cargo_calls, long_seeds, one_shots, streams
 from oracle.machine_code.memory import WordMemory
@@ -12,6 +12,7 @@ from oracle.symbolic_terms import (
     LONGEST,
     REFUSALS,
     Input,
+    Poly,
     Request,
     is_natural,
     is_same_number,
@@ -38,7 +39,7 @@ def library(answer=(0, 0), of=streams.ForC):
     return cpu
 
 
-def shown(arguments):
+def shown(arguments: Iterable) -> list:
     """Returns arguments as text: an address as its object's name and offset."""
     return [repr(x) if not isinstance(x, tuple) else (repr(x[0]), x[1]) for x in arguments]
 
@@ -391,7 +392,7 @@ def interfaces(_):
     expect(cargo.OfCargo.all_names(whole) == {"a", "b"}, True, "all names of a source")
 
 
-def range_of(x):
+def range_of(x: int | Poly) -> tuple[int, int]:
     """Returns the least and the greatest value of a number under the facts: a sum of a variable and a number."""
     if isinstance(x, int):
         return x, x

@@ -9,7 +9,7 @@ from oracle.machine_code import induction, values
 from oracle.machine_code.every_length import Cases
 from oracle.machine_code.induction import HALF, Family, Loops, Proof
 from oracle.machine_code.memory import WordMemory
-from oracle.machine_code.objects import Immediate, Place, Register
+from oracle.machine_code.objects import Immediate, Instruction, Place, Register
 from oracle.machine_code.values import address, joined, low, with_half
 from oracle.symbolic_terms import (
     REFUSALS,
@@ -65,7 +65,7 @@ class Sums:
         self.supposed[repr(k)] = values_of
 
 
-def at(base, offset=0):
+def at(base: str, offset: int = 0) -> Place:
     return Place(offset, base, None, 1)
 
 
@@ -77,7 +77,7 @@ AFTER = [("mov", R["r8"], R["rdx"]), ("ret",)]
 TWICE = [*TURN[:2], ("add", at("rdi", 8), R["rax"]), ("xor", at("rdi", 8), R["r8"]), ("add", Immediate(16), R["rdi"])]
 
 
-def assembled(lines):
+def assembled(lines: list[tuple]) -> list[Instruction]:
     """Returns the instructions of lines. A jump leads to the instruction of a number."""
     return [
         instruction(

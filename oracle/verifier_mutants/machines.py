@@ -56,7 +56,7 @@ def calls_of_functions(_):
         if change:
             self.registers[change] = symbol("another", 64)
 
-    cpu = new_processor(instruction("ret"))
+    cpu: Any = new_processor(instruction("ret"))
     cpu.set_flags("logic", 64, 0, 0, 0)
     cpu.vectors[3][2], cpu.count = 7, 99
     for change in (None, "rcx", *CALLEE_SAVED):
@@ -100,7 +100,7 @@ def functions_of_programs(_):
     with patched(processor, "known", lambda *of: of), patched(
         processor.Processor, "known", staticmethod(lambda *of: of)
     ):
-        cpu = new_processor(instruction("ret"))
+        cpu: Any = new_processor(instruction("ret"))
         expect(
             cpu.code["f"] == {0: ((instruction("ret"), "x86-64-v3"), instruction("ret"))} and cpu.name == "x86-64-v3",
             True,
@@ -387,7 +387,7 @@ def stores(_):
 
 def called(name, to=None, source=None, count=16, depth=264, change=None):
     """Calls a function of another library. Returns the processor, the memory, the registers before, and the place."""
-    cpu = new_processor()
+    cpu: Any = new_processor()
     cpu.registers["rsp"] = address(cpu.stack, ENTRY - depth + 8)
     for at in range(ENTRY - 640, ENTRY - 200, 8):
         cpu.stack.store(at, 8, at)

@@ -1,9 +1,10 @@
 """Tests of the readers of objects: frames, instructions' effects on them, notes and comparisons of objects.
 
 Expected values come from the formats: LEB128 and DWARF's directives for frames, ELF for objects."""
+import random
 import struct
 import types
-from typing import Any
+from typing import Any, Callable
 
 from assembly import eh_frame
 from assembly import same_bytes
@@ -308,8 +309,10 @@ def notes(rng):
 
 
 def changed_objects(
-    path, rng, seen=lambda first, second: list(same_bytes.differences(first, second, same_bytes.difference))
-):
+    path: str,
+    rng: random.Random,
+    seen: Callable = lambda first, second: list(same_bytes.differences(first, second, same_bytes.difference)),
+) -> None:
     """Changes bytes of an object's headers, symbols, relocations and code. Each must be refused or differ."""
     whole = same_bytes.Object(path)
     data, parts = whole.data, {**whole.parts(), **whole.added()}

@@ -84,11 +84,11 @@ def differing(old, new):
             yield from differing(a, b)
 
 
-def key_of(code):
+def key_of(code: types.CodeType) -> tuple[str, str]:
     return code.co_filename, code.co_qualname
 
 
-def functions_by_code():
+def functions_by_code() -> dict[int, list[types.FunctionType]]:
     """Maps each code object to the functions that have it."""
     out = {}
     for x in gc.get_objects():
@@ -118,7 +118,7 @@ class Patch:
         return all(by_code.get(id(old)) and not any(by_code.get(id(x)) for x in within(old)) for old, _ in self.pairs)
 
 
-def import_again(loader, patch):
+def import_again(loader: "Loader", patch: "Patch") -> types.ModuleType:
     """Imports all of the repository's modules again, one of them changed. Returns the checks' module."""
     loader.changed[patch.path] = patch.code
     for name in [*loader.paths]:

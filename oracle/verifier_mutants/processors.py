@@ -17,11 +17,17 @@ assert lanes and scalar  # imported because they fill the table of instructions
 RAX, RBX = 0x1122334455667788, 0x99AABBCCDDEEFF00
 
 
-def instruction(mnemonic, *operands, target=None, at=0, size=4):
+def instruction(
+    mnemonic: str,
+    *operands: Immediate | Place | Register,
+    target: tuple[str, int] | None = None,
+    at: int = 0,
+    size: int = 4,
+) -> Instruction:
     return Instruction("f", at, at + size, mnemonic, operands, target)
 
 
-def new_processor(*code):
+def new_processor(*code: Instruction) -> processor.Processor:
     """Returns a processor with a program of one function, with a stack, whose registers are numbers."""
     program = types.SimpleNamespace(
         constants={"c": (bytes(range(32)), 16)},
@@ -214,6 +220,7 @@ def calls(rng):
         lambda: new_processor(instruction("vmovdqa", Register("ymm1"), Register("ymm2"))).call("f"),
         "a vector that isn't set",
     )
+    to: Any
     for name, source in (
         ("memcpy", Numbers("m", bytes(range(100, 132)))),
         ("memmove", Numbers("m", bytes(range(100, 132)))),

@@ -294,7 +294,14 @@ def called_functions(_):
 # ---- objects
 
 
-def elf(sections, symbols, machine=62, flags=0, proof_class=1, magic=b"\x7fELF\x02\x01\x01"):
+def elf(
+    sections: list[tuple],
+    symbols: list[tuple],
+    machine: int = 62,
+    flags: int = 0,
+    proof_class: int = 1,
+    magic: bytes = b"\x7fELF\x02\x01\x01",
+) -> bytes:
     """Returns an object of ELF with sections (name, type, flags, data, link, info, align, entry) and symbols (name,
     info, other, section, value, size). The tables of symbols and names follow the given sections."""
 

@@ -11,7 +11,7 @@ import sys
 import tempfile
 import time
 import traceback
-from typing import Any, Optional
+from typing import Any, Iterator, Optional
 
 from oracle import antt
 
@@ -181,7 +181,9 @@ def in_process(known, coverage, one):
     )
 
 
-def run_all(known, coverage, mutants, jobs, seconds=None):
+def run_all(
+    known: Known, coverage: Coverage, mutants: list[edits.Mutant], jobs: int, seconds: float | None = None
+) -> Iterator[Outcome]:
     """Yields the outcomes of mutants, by several processes at once, until the CPU seconds are used."""
     data: Any
     pipe: Any

@@ -2,7 +2,8 @@
 
 Each test takes a random generator and raises Wrong. The expected values are computed here, on numbers."""
 import operator
-from typing import Any
+import random
+from typing import Any, Callable
 
 from oracle import antt
 from oracle import table
@@ -64,14 +65,18 @@ class Wrong(Exception):
     """Raised if a value isn't the expected one."""
 
 
-def expect(actual, expected, what):
+def expect(actual: object, expected: object, what: str) -> None:
     if actual.__class__ in (int, bool) and expected.__class__ in (int, bool) and actual == expected:
         return
     if actual.__class__ is not int or actual != expected:
         raise Wrong(f"{what}: {actual!r} and not {expected!r}")
 
 
-def refuses(call, what, errors=(Undecided, Unsupported)):
+def refuses(
+    call: Callable[[], object],
+    what: str,
+    errors: type[BaseException] | tuple[type[BaseException], ...] = (Undecided, Unsupported),
+) -> None:
     """Checks that a call is refused."""
     try:
         call()
@@ -80,7 +85,7 @@ def refuses(call, what, errors=(Undecided, Unsupported)):
     raise Wrong(f"{what} isn't refused")
 
 
-def number(rng, width=64):
+def number(rng: random.Random, width: int = 64) -> int:
     return (rng.choice(EDGES) if rng.random() < 0.4 else rng.getrandbits(rng.choice((3, 8, 16, 32, 64)))) % (1 << width)
 
 
@@ -152,7 +157,7 @@ def word_operations(rng):
     expect(complement.values[0], (x.values[0] + 5) % (1 << 32) ^ 0xFFFFFFFF, "a complement")
 
 
-def value_of(x, k=0):
+def value_of(x: Any, k: int = 0) -> int:
     return x if isinstance(x, int) else x.values[k]
 
 

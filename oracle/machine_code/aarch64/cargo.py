@@ -10,7 +10,7 @@ NAME = "aarch64"
 SOURCE = os.path.join(FOLDER, f"{NAME}.s")
 
 
-def program():
+def program() -> "CargoProgram":
     """Returns the program of the assembled source."""
     return assembled(SOURCE, NAME, CargoProgram)
 

@@ -103,7 +103,7 @@ def without_offset(found):
     raise Unsupported(f"a relocation over {last}")
 
 
-def listing(path, *options):
+def listing(path: str, *options: str) -> dict[str, list[tuple[int, bytes, str]]]:
     """Maps each section to (address, bytes, text) of the instructions that objdump prints."""
     return objects.listing(path, "aarch64-linux-gnu-objdump", options, LINE, -1)
 

@@ -270,7 +270,7 @@ def same_flags(cpu, nzcv):
     return all(bool(NZCV[name](nzcv)) == cpu.test(name) and cpu.test(name) != cpu.test(NOT[name]) for name in names)
 
 
-def report():
+def report() -> tuple[str, list[str]]:
     """Compares each form of the table with qemu. Returns the counts and the failures."""
     tests, sets = all_tests(), list(inputs(random.Random(5)))
     with tempfile.TemporaryDirectory(prefix="on-qemu-") as workdir:

@@ -1,7 +1,7 @@
 """Runs a program for 64-bit ARM symbolically, from a function's first instruction to its return, like ../processor.py
 for x86-64. A call leaves the return address in a register."""
 import operator
-from typing import Any
+from typing import Any, Callable
 
 from oracle.symbolic_terms import TESTS, Undecided, Unsupported, is_number, is_same_number, plus, signed
 
@@ -36,7 +36,7 @@ class Page:
         raise Undecided("a page as a number")
 
 
-def form(mnemonics, forms):
+def form(mnemonics: str, forms: str) -> Callable:
     """Returns a decorator that adds a function to the table for some mnemonics, each with comma-separated forms. It
     takes the processor, the instruction and the operands."""
 

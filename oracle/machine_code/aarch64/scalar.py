@@ -1,5 +1,5 @@
 """Semantics of instructions on words, control flow and memory."""
-from oracle.symbolic_terms import Unsupported, lifted, ones, plus
+from oracle.symbolic_terms import Unsupported, Value, lifted, ones, plus
 from oracle.symbolic_terms.signs_and_rotations import rotated
 
 from ..flags import is_equal
@@ -30,7 +30,7 @@ def value(cpu, x, width):
     return cpu.get(x) if isinstance(x, Register) else x.value % (1 << width)
 
 
-def shifted(x, width, shift):
+def shifted(x: Value, width: int, shift: Shift) -> Value:
     if shift.op == "ror":
         return rotation(x, width, shift.amount)
     word, k = "shl" if shift.op == "lsl" else "lshr", shift.amount % width

@@ -2,6 +2,7 @@
 import functools
 import os
 import types
+from typing import Any, Iterator
 
 from oracle.symbolic_terms import TOP, comparison, cuts
 from oracle.symbolic_terms.processes import Task, chosen
@@ -31,17 +32,17 @@ STREAMED = (5, 33, 70, 257, 300, 513, 700)
 LONG_INPUTS = [*range(241, 301), 1024, 1025, 1089]  # lengths tested one by one, without --all
 
 
-def program():
+def program() -> Program:
     return assembled(TEXT, cargo.NAME, Program)
 
 
-def choose(given, found):
+def choose(given: Any, found: Program) -> list[Task]:
     out, processors = [], {cargo.NAME: functools.partial(Processor, found)}
     for algorithm in comparison.algorithms(SECRETS):
         lengths = range(301) if given.all or algorithm[2] != SECRETS[1] else range(0, 301, 20)
         out.append(shared.one_by_one(processors, algorithm, lengths, ", one-shots"))
         if given.all and algorithm[2] is None and algorithm[0].startswith("3-"):
-            asked = [*shared.MORE, every_length.PREFETCHED]
+            asked: list | Iterator = [*shared.MORE, every_length.PREFETCHED]
             out.append(shared.one_by_one(processors, algorithm, asked, ", one-shots"))
         if algorithm[2] != SECRETS[1]:
             asked = cuts.streams(*algorithm, cuts.STREAMED if given.all else STREAMED)

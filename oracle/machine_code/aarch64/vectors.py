@@ -1,7 +1,7 @@
 """Semantics of vector instructions. A vector is two lanes of 64 bits."""
 import functools
 
-from oracle.symbolic_terms import Undecided, Unsupported
+from oracle.symbolic_terms import Undecided, Unsupported, Value
 
 from ..values import WORD, arithmetic, bits, joined, low
 from .objects import Register, Vector
@@ -10,12 +10,12 @@ from .processor import form
 HALF = 32
 
 
-def quarters_of(lanes):
+def quarters_of(lanes: list[Value]) -> list[Value]:
     """Returns the four 32-bit words of a vector."""
     return [part for lane in lanes for part in (low(lane, HALF), arithmetic("lshr", WORD, lane, HALF))]
 
 
-def of_quarters(parts):
+def of_quarters(parts: list[Value]) -> list[Value]:
     """Returns a vector of four words, or of fewer with zeros above."""
     parts = [*parts, 0, 0, 0][:4]
     return [joined((parts[k], HALF), (parts[k + 1], HALF)) for k in (0, 2)]

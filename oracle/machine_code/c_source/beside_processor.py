@@ -1,8 +1,10 @@
 """Compares the forms of instructions of the objects with this processor, as the assembly sources' are."""
 import tempfile
+from typing import Iterable
 
 from .. import on_processor
 from ..instructions import TABLE
+from ..objects import Program
 from .objects import COPY, copy_of
 
 FEWEST = 240
@@ -33,7 +35,7 @@ class Snippets(on_processor.Snippets):
         return copy_of(section, at, end, text) or super().instruction(section, at, end, text, places)
 
 
-def compare(programs):
+def compare(programs: Iterable[Program]) -> tuple[int, list[str]]:
     """Returns the number of instructions, one of each form, and messages on those that differ."""
     on_processor.expect_processor()
     asked = {}

@@ -33,7 +33,7 @@ class Compiler(collections.namedtuple("Compiler", "name command processor_name")
         return CProcessor(program)
 
 
-def compilers():
+def compilers() -> list[Compiler]:
     return [
         Compiler(f"{command} {name}", (command, "-O2", f"-march={name}"), name)
         for command in ("gcc", "clang")

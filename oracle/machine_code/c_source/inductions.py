@@ -8,6 +8,7 @@ from oracle.symbolic_terms import at_most, is_same_number, minus, plus, times, v
 from oracle.symbolic_terms.polynomials import as_word, is_natural
 
 from .. import any_updates, every_length
+from ..any_updates import Update
 from ..every_length import DERIVED, TURNS, Case, xxh3_case
 from .objects import OF_STATE, at_each_residue
 
@@ -39,7 +40,7 @@ def xxh3_cases():
         yield xxh3_case(turns, J, minus(turns, LEAST))
 
 
-def cases(algorithm):
+def cases(algorithm: str) -> list[Case]:
     """Returns the cases of a kind. A secret has 192 to 199 bytes."""
     name, _, way = algorithm.partition(":")
     if not way:
@@ -50,12 +51,12 @@ def cases(algorithm):
     return [every_length.with_rest(case, rest) for case in found for rest in (False, True)]
 
 
-def shortest(algorithm):
+def shortest(algorithm: str) -> int:
     """Returns the shortest length that the cases contain."""
     return 241 if ":" in algorithm else LEAST * int(algorithm) // 2
 
 
-def left_out(algorithm):
+def left_out(algorithm: str) -> list[int]:
     """Returns the lengths that no case contains, one of each gap."""
     return every_length.left_out(
         cases(algorithm), shortest(algorithm), 64 * DERIVED if ":" in algorithm else int(algorithm) // 2
@@ -116,12 +117,12 @@ class Updates(any_updates.AnyUpdates):
                 yield functools.partial(self.at_each_residue, functools.partial(self.digest, a, r))
 
 
-def updates(hash_name):
+def updates(hash_name: str) -> list[Update]:
     """Returns the updates: r bytes before and s bytes after it in the buffer, with no further stripe, or any number."""
     return [one for one in any_updates.updates(hash_name) if one.further == 0]
 
 
-def updates_left_out(hash_name):
+def updates_left_out(hash_name: str) -> list[tuple[int, int]]:
     """Returns the chunks (r, length) that no update covers, for lengths up to three stripes."""
     stripe = int(hash_name) // 2
     found = {

@@ -4,6 +4,7 @@ runs once for each residue modulo 64 of the stack and of a state."""
 import contextlib
 import functools
 import itertools
+from typing import Any, Callable
 
 from oracle.symbolic_terms import REFUSALS, NotShown, Unsupported, is_same
 
@@ -13,7 +14,7 @@ from ..one_shots import NAMES, WAYS, is_plain, of_seed
 from ..processor import Processor
 from ..rustc.objects import RustProgram, known_where_reached
 from ..streams import OK, ForC, expect_answer
-from ..values import address
+from ..values import Address, address
 from . import forms
 
 TABLES = (forms,)  # imported because it fills the table of instructions
@@ -24,7 +25,7 @@ COPY = "rep-movsq"  # name of an instruction with a prefix
 PROVED = "proved_"  # part of names of the assembly library that the source's names lack
 
 
-def copy_of(section, at, end, text):
+def copy_of(section: str, at: int, end: int, text: str) -> Instruction | None:
     """Returns a copy of words, or None."""
     return Instruction(section, at, end, COPY, (), None) if text.startswith("rep movsq ") else None
 
@@ -104,6 +105,7 @@ def allocate(cpu, _):
     size = cpu.registers["rdi"]
     if not isinstance(size, int):
         raise Unsupported(f"memory of {size} bytes")
+    found: int | Address
     place, found = cpu.return_from_another(), 0
     if not cpu.is_full:
         block = WordMemory(f"block {len(cpu.blocks)}", size)
@@ -120,7 +122,7 @@ def release(cpu, _):
     return cpu.return_from_another()
 
 
-def at_each_residue(cpu, ask, least=MODULUS):
+def at_each_residue(cpu: "CProcessor", ask: Callable[[], Any], least: int = MODULUS) -> list:
     """Returns the results of a call for each place of the stack and of a state that is a multiple of `least`. The
     residues are those of the smallest moduli, up to 64, that decide the low bits of addresses."""
     pairs = itertools.product(multiples(OF_STACK), multiples(least))

@@ -23,7 +23,7 @@ from .. import calls
 from ..memory import WordMemory
 from ..one_shots import is_plain
 from ..streams import ERROR, OK, contents, expect_answer, expect_same, new_state
-from ..values import Address, address, low
+from ..values import Address, Cpu, address, low
 from .objects import MODULUS, OF_STACK, OF_STATE, at_each_residue
 
 ALGORITHMS = {"XXH32": "32", "XXH64": "64", "XXH3": "3-64"}
@@ -39,7 +39,7 @@ def any_state(cpu, hash_name, name="state"):
     return state
 
 
-def equal_hashes(cpu):
+def equal_hashes(cpu: Cpu) -> int:
     """Tests equal hashes, and hashes that differ in the low word, in the high word, or in both: by any xor, which some
     code computes, or one is greater."""
     with contextlib.suppress(*REFUSALS):
@@ -53,7 +53,7 @@ def equal_hashes(cpu):
     return 9
 
 
-def copies(cpu, algorithm):
+def copies(cpu: Cpu, algorithm: str) -> int:
     """Tests that a copy has all bytes of its original, which stays as it was, at each residue."""
     hash_name = ALGORITHMS[algorithm]
 
@@ -67,7 +67,7 @@ def copies(cpu, algorithm):
     return len(at_each_residue(cpu, ask, OF_STATE[hash_name.split("-")[0]]))
 
 
-def refused_resets(cpu):
+def refused_resets(cpu: Cpu) -> int:
     """Tests that resets of null, and with null or a secret of each length that is too short, leave the state."""
     size, seed, count = variable("size"), symbol("seed64", 64), 0
     large, secret = plus(size, SHORTEST), address(Input("s", plus(size, SHORTEST)))
@@ -84,7 +84,7 @@ def refused_resets(cpu):
     return count
 
 
-def refused_secrets(cpu):
+def refused_secrets(cpu: Cpu) -> int:
     """Tests generated secrets of each size that is too short, into null, and from null as more than 0 bytes."""
     size, length = variable("size"), variable("length")
     buffer, source = WordMemory("secret", SHORTEST, [], alignment=1), address(Input("m", length))
@@ -102,7 +102,7 @@ def refused_secrets(cpu):
     return len(cases)
 
 
-def updates_of_nothing(cpu, hash_name):
+def updates_of_nothing(cpu: Cpu, hash_name: str) -> int:
     """Tests that a null chunk of length 0, before, between and after others, leaves the digest unchanged."""
     entries, lengths = definition.program().run(), (0, 5, 33, 300, 700)
     variant = "seed" if is_plain(hash_name) else "default"
@@ -120,7 +120,7 @@ def updates_of_nothing(cpu, hash_name):
     return len(lengths)
 
 
-def another_name(cpu, lengths):
+def another_name(cpu: Cpu, lengths: list[int]) -> int:
     """Tests that XXH128 returns the same as XXH3_128bits_withSeed."""
     seed = symbol("seed64", 64)
     for n, own in itertools.product(lengths, (seed, 0)):
@@ -134,11 +134,11 @@ def another_name(cpu, lengths):
     return 2 * len(lengths)
 
 
-def order_of_hashes(cpu):
+def order_of_hashes(cpu: Cpu) -> int:
     return calls.compare(cpu) + calls.compare_in_one_place(cpu)
 
 
-def generated_secrets(cpu, asked):
+def generated_secrets(cpu: Cpu, asked: list[tuple[int, int]]) -> int:
     """Tests secrets of given sizes, generated from seeds of given lengths."""
     for one in asked:
         at_each_residue(cpu, functools.partial(calls.generated_secrets, cpu, [one]))
@@ -148,7 +148,7 @@ def generated_secrets(cpu, asked):
 # ---- memory
 
 
-def created_states(cpu, algorithm):
+def created_states(cpu: Cpu, algorithm: str) -> int:
     """Tests a state in a block at each residue that malloc returns, and null if it does. The state has the content of
     one that was reset, and is freed as the block; a release of null does nothing."""
 

@@ -6,6 +6,7 @@ from oracle.symbolic_terms import REFUSALS, Request, WrongRule, comparison, head
 
 from .. import one_shots, streams
 from . import inductions, other_calls
+from .compilers import Compiler
 from .objects import CProcessor, OfText
 
 # A fault: the function of the header, the old and the new text, and what must detect it, of a processor.
@@ -91,7 +92,7 @@ FAULTS = [
 ]
 
 
-def unnoticed(compiler, faults):
+def unnoticed(compiler: Compiler, faults: list[Fault]) -> tuple[int, list[str]]:
     """Returns how many faults are detected, and messages on the others."""
     bad = []
     for fault in faults:

@@ -1,6 +1,8 @@
 """Chooses the tasks of oracle/c-object: the functions of c/source/xxhash.c in each compiler's object, compared with the
 definition."""
+import argparse
 import functools
+from typing import Iterator
 
 from oracle.symbolic_terms import Request, comparison, cuts, processes
 from oracle.symbolic_terms.comparison import title_of
@@ -8,6 +10,7 @@ from oracle.symbolic_terms.comparison import title_of
 from .. import calls, one_shots, streams
 from ..tasks import compared, count_shown, counted
 from . import beside_processor, inductions, other_calls, planted
+from .compilers import Compiler
 from .objects import CProcessor, OfText, at_each_residue
 
 FUNCTIONS = 49  # of the header
@@ -47,14 +50,14 @@ def left_out(name):
     return next((found for start, found in NOT_VERIFIED.items() if name.startswith(start)), {})
 
 
-def not_verified(compilers):
+def not_verified(compilers: list[Compiler]) -> Iterator[str]:
     """Yields what no task verifies, with --all."""
     for compiler in compilers:
         yield from (f"{compiler.name}: {name}, for {reason}" for name, reason in left_out(compiler.name).items())
     yield from LEFT_OUT
 
 
-def choose(given, compilers):
+def choose(given: argparse.Namespace, compilers: list[Compiler]) -> list[processes.Task]:
     """Returns the tasks, and compiles the source."""
     programs = {compiler.name: compiler.program() for compiler in compilers}
     processors = {name: functools.partial(CProcessor, program) for name, program in programs.items()}
@@ -81,7 +84,7 @@ def value_tasks(processors, is_all):
     """Yields the tasks of one-shots and of streams, one by one."""
     for algorithm in comparison.algorithms(SECRETS if is_all else SECRETS[:1]):
         lengths = ONE_BY_ONE if is_all else FEW if algorithm[2] else SOME
-        asked = comparison.requests(*algorithm, lengths)
+        asked: list | Iterator = comparison.requests(*algorithm, lengths)
         yield compared(processors, f"{title_of(*algorithm)}, one-shots", asked, OfText(one_shots))
         asked = list(cuts.streams(*algorithm, cuts.STREAMED if is_all else STREAMED))
         asked = [*asked, *at_once(algorithm)] if is_all else asked[::SOME_STREAMS]

@@ -24,7 +24,7 @@ from oracle.symbolic_terms import (
 from .. import layouts
 from ..cargo import LONGEST_WITHOUT, SHORTEST
 from ..one_shots import value_of
-from ..values import address, place_of
+from ..values import Address, Cpu, address, place_of
 from .library import ForRust, ways
 from .objects import UNKNOWN
 from .uses import started
@@ -91,7 +91,7 @@ class Features:
         return value
 
 
-def choice(cpu):
+def choice(cpu: Cpu) -> int:
     """Tests the level of processors that have all features, all but one, or only those of a level."""
     v3, v4, count = [*OF_V3.values()], [*OF_V4.values()], 0
     both = [*v3, *v4]
@@ -161,7 +161,7 @@ class Called:
             raise NotShown(f"another secret of {size} bytes")
 
 
-def long_inputs(cpu):
+def long_inputs(cpu: Cpu) -> int:
     """Tests that a one-shot of any length above 240 bytes, with any secret, is one call of the assembly source."""
     count, derived_secret = 0, definition.program().run()["derived_secret"]
     seed, n, more = seed_symbol("64"), variable("n"), variable("more")
@@ -189,7 +189,7 @@ def long_inputs(cpu):
 # ---- chunks by the assembly source
 
 
-def long_chunks(cpu):
+def long_chunks(cpu: Cpu) -> int:
     """Tests that a chunk that the buffer of a stream has no room for, of any length, is one call of the assembly
     source: with the stream's core, its secret, and the chunk."""
     count, n = 0, variable("n")
@@ -219,7 +219,7 @@ def long_chunk(cpu, way, request, chunk):
         raise NotShown(f"{request}: the call changes the stream")
 
 
-def record(cpu, calls, secret):
+def record(cpu: Cpu, calls: list[tuple], secret: Address | None) -> tuple[str, int] | None:
     """Notes a call's arguments, with the bytes of its secret if that isn't the caller's, and returns the code 0."""
     core, own, size, at, length = (cpu.registers[name] for name in cpu.ARGUMENTS[:5])
     memory, first = place_of(own)

@@ -71,7 +71,7 @@ def edit(path, old, new):
         file.write(text.replace(old, new))
 
 
-def for_x86():
+def for_x86() -> list[Compiler]:
     """Returns the builds by the machine's own rustc: the Rust source for two instruction sets and without vectors, and
     the assembly source, whose functions for all instruction sets are in one object."""
 
@@ -82,7 +82,7 @@ def for_x86():
     return [build(V1, SOURCE, V1), build(V3, SOURCE, V3), build(SCALAR_BUILD, SCALAR, V1), build(ASSEMBLY, (), V1)]
 
 
-def for_arm(root, workdir):
+def for_arm(root: str, workdir: str) -> list[Compiler]:
     """Returns Debian's rustc with Debian's libraries for 64-bit ARM, unpacked below `root`."""
     libraries = os.path.join("lib", "rustlib")
     os.makedirs(os.path.join(workdir, libraries))

@@ -2,6 +2,7 @@
 from oracle.symbolic_terms import at_most, is_same_number, minus, plus, times, variable
 
 from .. import any_updates, every_length
+from ..every_length import Case
 from .compilers import ASSEMBLY
 
 LONGEST_SLICE = (1 << 63) - 1
@@ -20,7 +21,7 @@ class RustUpdates(any_updates.AnyUpdates):
             super().update_between(a, r, b, s, [*known, *more], family, total)
 
 
-def cases_of(algorithm, is_assembly=False):
+def cases_of(algorithm: str, is_assembly: bool = False) -> list[Case]:
     """Returns the cases of every length. Those of XXH3 are split by whether the last stripe is whole, which rustc's
     checks of slices use, and those of XXH32 by whether the assembly source is called."""
     found = every_length.cases(algorithm)
@@ -38,7 +39,7 @@ def by_last_stripe():
     return [[at_most(variable("t"), 62)], [minus(variable("t"), 63)]]
 
 
-def of_any_secret():
+def of_any_secret() -> list[Case]:
     """Returns the cases of XXH3 from 241 bytes on with a secret of 192 to 199 bytes, split in the same way."""
     return split(every_length.of_secret(), by_last_stripe())
 

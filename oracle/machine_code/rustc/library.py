@@ -24,7 +24,7 @@ OF_XXH3 = [
 ]
 
 
-def ways(hash_name):
+def ways(hash_name: str) -> list[Way]:
     """Returns the ways to start a stream, with the names of its exports."""
     found = PLAIN if is_plain(hash_name) else OF_XXH3
     return [way._replace(prefix=way.prefix.format(hash_name.replace("-", "_"))) for way in found]

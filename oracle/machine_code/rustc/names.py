@@ -1,6 +1,7 @@
 """Derives the crate's public names from its source, and compares them with the program that uses them."""
 import os
 import re
+from typing import Iterable, Iterator
 
 from .compilers import CRATE, PROGRAM
 
@@ -40,14 +41,14 @@ def without_comments(text):
     return COMMENT.sub("", text)
 
 
-def texts_of_crate():
+def texts_of_crate() -> Iterator[str]:
     for name in sorted(os.listdir(SOURCE)):
         if name.endswith(".rs") and name not in PRIVATE:
             with open(os.path.join(SOURCE, name), encoding="utf-8") as file:
                 yield file.read()
 
 
-def left_out(texts=None):
+def left_out(texts: Iterable[str] | None = None) -> tuple[int, list[str]]:
     """Returns how many names the program uses, and messages on the others."""
     with open(PROGRAM, encoding="utf-8") as file:
         used = set(re.findall(r"\w+", without_comments(file.read())))

@@ -10,6 +10,7 @@
 import collections
 import functools
 import re
+from typing import Callable
 
 from oracle.symbolic_terms import Unsupported, is_natural, is_number, is_same_number, minus
 from oracle.symbolic_terms.memory import Unset
@@ -199,7 +200,7 @@ OWN = {
 
 
 @functools.cache
-def known_where_reached(instruction, name):
+def known_where_reached(instruction: Instruction, name: str) -> Callable:
     """Returns the function of an instruction. One that the table lacks is refused when a run reaches it: rustc's object
     has functions that no call reaches."""
     own = OWN.get((instruction.mnemonic, letters(instruction)))

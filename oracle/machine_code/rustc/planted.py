@@ -8,6 +8,7 @@ from oracle.symbolic_terms import REFUSALS, Request, WrongRule, comparison, defi
 from .. import any_updates, every_length, one_shots, xxh3_updates
 from ..tasks import count_shown
 from . import choice, uses, xxh3_streams
+from .compilers import Compiler
 from .inductions import RustUpdates, cases_of
 from .library import ways
 
@@ -231,12 +232,12 @@ FAULTS = [
 ]
 
 
-def build_of(group):
+def build_of(group: str) -> str:
     """Returns the name of a group's build."""
     return group.partition(",")[0]
 
 
-def groups():
+def groups() -> dict[str, list[Fault]]:
     """Maps each build, and each remark, to its faults."""
     out = collections.defaultdict(list)
     for fault in FAULTS:
@@ -244,7 +245,7 @@ def groups():
     return out
 
 
-def unnoticed(compilers, faults):
+def unnoticed(compilers: list[Compiler], faults: list[Fault]) -> tuple[int, list[str]]:
     """Compiles faults together. Returns how many are detected, and messages on the others."""
     compiler = next(one for one in compilers if one.name == build_of(faults[0].build))
     program = compiler.program_of([(fault.file, fault.old, fault.new) for fault in faults])

@@ -1,4 +1,5 @@
 """Chooses the tasks of oracle/rust-object: the crate's public calls in rustc's object, compared with the definition."""
+import argparse
 import functools
 import itertools
 import re
@@ -11,7 +12,7 @@ from ..instructions import V1, V3
 from ..one_shots import is_plain
 from ..tasks import SOME_SHORT, UPDATE_PARTS, any_streams, compared, count_shown, counted, of_each
 from . import choice, names, planted, uses, xxh3_streams
-from .compilers import ASSEMBLY, SCALAR_BUILD
+from .compilers import ASSEMBLY, SCALAR_BUILD, Compiler
 from .inductions import RustUpdates, cases_of, of_any_secret
 from .objects import LEVELS
 
@@ -37,7 +38,7 @@ FEWEST_OF_RAW = {xxh3_updates.UPDATES: 80, xxh3_updates.DIGESTS: 300}
 NOT_CALLED = {f"xxh{name}_equal": "instructions that the processor's model lacks" for name in ("32", "64")}
 
 
-def choose(given, compilers):
+def choose(given: argparse.Namespace, compilers: list[Compiler]) -> list[processes.Task]:
     """Returns the tasks, and compiles the builds that they run."""
     out = [
         counted("the program uses each public name", FEWEST_NAMES, names.left_out),

@@ -1,12 +1,14 @@
 """Tests the calls of the crate that neither comparison.py nor the inductions make: integers as chunks, secrets that a
 call returns, refusals, and the other values of a stream. Each function returns its number of cases, or raises."""
 import functools
+from typing import Callable, Iterable
 
 from oracle.symbolic_terms import (
     Input,
     NotShown,
     Piece,
     Request,
+    Value,
     at_most,
     definition,
     given,
@@ -22,8 +24,8 @@ from .. import one_shots, streams
 from ..cargo import LONGEST_WITHOUT, SHORTEST, TOO_SHORT, call_into, expect_code, export_name
 from ..memory import WordMemory
 from ..one_shots import suppose_seed
-from ..values import address, low
-from .library import ForRust, ways
+from ..values import Cpu, address, low
+from .library import ForRust, Way, ways
 
 HASHES = "32", "64", "3-64", "3-128"
 INTEGERS = {"u8": 1, "u16": 2, "u32": 4, "u64": 8, "usize": 8, "u128": 16}
@@ -33,12 +35,14 @@ REFUSED = 1000  # added by `secret_into_secret` to the length of a refused secre
 LONGEST_SLICE = (1 << 63) - 1
 
 
-def expect(what, found, expected):
+def expect(what: str, found: Value, expected: Value) -> None:
     if not (is_same(found, expected) or is_same_number(found, expected)):
         raise NotShown(f"{what}: {found} and not {expected}")
 
 
-def started(cpu, hash_name, way, request, is_cloned=False):
+def started(
+    cpu: Cpu, hash_name: str, way: Way, request: Request, is_cloned: bool = False
+) -> tuple[WordMemory, ForRust]:
     """Returns an empty stream, begun in a way, and its library."""
     cpu.library = library = ForRust(cpu, hash_name, way, is_cloned)
     suppose_seed(cpu, request)
@@ -51,7 +55,7 @@ def started(cpu, hash_name, way, request, is_cloned=False):
 # ---- chunks
 
 
-def integers(cpu, only=""):
+def integers(cpu: Cpu, only: str = "") -> int:
     """Tests each type of integer as a chunk after some bytes, of the streams whose exports' names begin with `only`."""
     count, entries = 0, definition.program().run()
     asked = [(name, ways(name)[0]) for name in HASHES[:2]] + [("3-64", way) for way in ways("3-64")[1:3]]
@@ -149,7 +153,7 @@ def secret_buffers(cpu, derived_secret):
 # ---- refusals
 
 
-def refused(cpu):
+def refused(cpu: Cpu) -> int:
     """Tests secrets that are too short: one-shots of every length with secrets of every length, and streams."""
     count = 0
     for hash_name in HASHES[2:]:
@@ -186,7 +190,7 @@ def refused_one_shots(cpu, hash_name):
     return 2
 
 
-def one_shot(cpu, request):
+def one_shot(cpu: Cpu, request: Request) -> None:
     """Compares a one-shot."""
     cpu.library = ForRust(cpu)
     expect(repr(request), one_shots.of_text(cpu, request), request.of_definition(definition.program().run()))
@@ -197,7 +201,7 @@ def one_shot(cpu, request):
 STREAMS = [(0,), (9, 2), (70, 33, 64), (241, 239), (600, 512, 599), (1100, 64)]
 
 
-def by_each_way(cpu, is_cloned, asked=STREAMS):
+def by_each_way(cpu: Cpu, is_cloned: bool, asked: Iterable[tuple[int, ...]] = STREAMS) -> int:
     """Compares streams by each way to start them, with each chunk written to a clone or not."""
     count, entries, texts = 0, definition.program().run(), {}
     for hash_name in HASHES:
@@ -227,7 +231,7 @@ def of_text(cpu, request):
     return written(cpu, request.hash_name, way, request)
 
 
-def written(cpu, hash_name, way, request, is_cloned=False):
+def written(cpu: Cpu, hash_name: str, way: Way, request: Request, is_cloned: bool = False) -> Value:
     """Returns the hash of a stream, begun in a way."""
     (state, library), at = started(cpu, hash_name, way, request, is_cloned), 0
     for end in [*request.cuts, request.length]:
@@ -236,7 +240,7 @@ def written(cpu, hash_name, way, request, is_cloned=False):
     return streams.digest(cpu, hash_name, state)
 
 
-def calls(is_all):
+def calls(is_all: bool) -> list[tuple[int, Callable]]:
     """Returns the minimum number of cases and the function of each test. Without `is_all`, streams have few lengths."""
     some = STREAMS[0 if is_all else 1 :: 1 if is_all else 2]
     by_way = [

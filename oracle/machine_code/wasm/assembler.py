@@ -8,7 +8,7 @@ CONSTANTS = bytes(range(1, 193))
 END = b"\x0b"
 
 
-def unsigned(n):
+def unsigned(n: int) -> bytes:
     out = []
     while True:
         n, group = n >> 7, n & 127
@@ -17,7 +17,7 @@ def unsigned(n):
             return bytes(out)
 
 
-def signed(n):
+def signed(n: int) -> bytes:
     out = []
     while True:
         n, group = n >> 7, n & 127
@@ -26,11 +26,11 @@ def signed(n):
         out.append(group | 128)
 
 
-def vector(items):
+def vector(items: list[bytes]) -> bytes:
     return unsigned(len(items)) + b"".join(items)
 
 
-def section(section_id, body):
+def section(section_id: int, body: bytes) -> bytes:
     return bytes([section_id]) + unsigned(len(body)) + body
 
 
@@ -56,7 +56,7 @@ def given(behind, operands):
     return b"".join(map(unsigned, numbers))
 
 
-def assembled(text):
+def assembled(text: str) -> bytes:
     out = b""
     for line in filter(None, map(str.strip, text.split(";"))):
         name, *operands = line.split()
@@ -76,7 +76,7 @@ def function(text, locals_=LOCALS):
     return unsigned(len(body)) + body
 
 
-def module(texts):
+def module(texts: list[str]) -> bytes:
     """Returns a module with the functions f0, f1, .., without parameters and results, after HELPER, function 0."""
     word = bytes([CODES["i64"]])
     types = [b"\x60" + vector([word, word]) + vector([word]), b"\x60\0\0"]

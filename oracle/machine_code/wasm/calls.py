@@ -1,8 +1,9 @@
 """Calls a module for a request like web/twox_hash.js: one-shots, and streams whose record is saved and restored after
 an update. A call that succeeds must write its value; a refused one must write nothing."""
-from oracle.symbolic_terms import Memory, Node, Piece, Unsupported
+from oracle.symbolic_terms import Memory, Node, Piece, Request, Unsupported, Value
 
 from . import layouts
+from .machine import Machine
 from .values import address
 
 DONE, SECRET_TOO_SHORT, NOT_A_STREAM = 0, 1, 2
@@ -15,11 +16,11 @@ PADDING = {"xxh32": range(OF_32.buffer + OF_32.capacity, OF_32.marked)}
 DERIVED = 192  # bytes of the secret derived from a seed
 
 
-def is_plain(hash_name):
+def is_plain(hash_name: str) -> bool:
     return hash_name in ("32", "64")
 
 
-def family(hash_name):
+def family(hash_name: str) -> str:
     return f"xxh{hash_name}" if is_plain(hash_name) else "xxh3"
 
 
@@ -31,19 +32,19 @@ def name_of_one_shot(request):
     return export(request.hash_name) + ("" if is_plain(request.hash_name) else WAYS[request.variant])
 
 
-def begin(vm, request):
+def begin(vm: Machine, request: Request) -> Value:
     """Returns a request's seed. If it is a symbol, the machine records if the module tests it for 0."""
     seed = request.seed()
     vm.seed, vm.has_asked = seed if isinstance(seed, Node) else None, False
     return seed
 
 
-def answered(results, code=DONE):
+def answered(results: list[Value], code: int = DONE) -> None:
     if results != [code]:
         raise Unsupported(f"the code {results}")
 
 
-def of_secret(request):
+def of_secret(request: Request) -> list[Value]:
     return [address(request.secret), request.secret_length] if request.secret else []
 
 
@@ -65,7 +66,7 @@ def new_value(vm, hash_name):
     return out
 
 
-def one_shot(vm, request):
+def one_shot(vm: Machine, request: Request) -> Value:
     """Returns the hash of a one-shot. With a secret, and for 128 bits, the call writes it to memory."""
     out = new_value(vm, request.hash_name) if request.secret or request.hash_name == "3-128" else None
     results = call_one_shot(vm, request, out)
@@ -76,19 +77,19 @@ def one_shot(vm, request):
     return out.load(0, out.length)
 
 
-def refused_one_shot(vm, request):
+def refused_one_shot(vm: Machine, request: Request) -> None:
     """Tests a one-shot whose secret is too short."""
     out = Memory("the value", BYTES[request.hash_name])
     answered(call_one_shot(vm, request, out), SECRET_TOO_SHORT)
     expect_unchanged("the value", out, {})
 
 
-def refused_start(vm, request):
+def refused_start(vm: Machine, request: Request) -> None:
     """Tests the start of a stream whose secret is too short."""
     Stream(vm, request).refused_start()
 
 
-def expect_unchanged(what, memory, cells):
+def expect_unchanged(what: str, memory: Memory, cells: dict | None) -> None:
     """Checks that the memory is unchanged."""
     if memory.cells != cells:
         raise Unsupported(f"{what} isn't as it was")
@@ -180,7 +181,7 @@ class Stream:
             self.record.store(at, 1, 0)
 
 
-def stream(vm, request):
+def stream(vm: Machine, request: Request) -> Value:
     """Returns the hash of a stream, saved and restored after its first update. A digest must write only its value."""
     it, at = Stream(vm, request), 0
     it.start()

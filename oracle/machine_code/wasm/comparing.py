@@ -1,6 +1,10 @@
 """Compares the modules with the definition: for each request both must compute the same term."""
+from typing import Callable, Iterable, Iterator
+
 from oracle.symbolic_terms import Request, comparison, definition, nodes
 from oracle.symbolic_terms.cuts import cuts_of
+
+from .machine import Machine
 
 MOST_NODES = 300_000
 
@@ -26,7 +30,7 @@ class Texts:
         return self.known[key]
 
 
-def requests(algorithm, lengths, is_stream):
+def requests(algorithm: tuple[str, str, int | None], lengths: Iterable[int], is_stream: bool) -> Iterator[Request]:
     """Yields the requests of a kind, (hash, function, length of the secret). A symbolic seed is nonzero if a module
     tests it."""
     for length in lengths:
@@ -34,11 +38,11 @@ def requests(algorithm, lengths, is_stream):
             yield Request(algorithm[0], algorithm[1], length, algorithm[2], cuts=cuts)
 
 
-def with_seed_0(request):
+def with_seed_0(request: Request) -> Request:
     return Request(request.hash_name, request.variant, request.length, request.secret_length, 0, request.cuts)
 
 
-def compare(machines, asked, answer):
+def compare(machines: dict[str, Machine], asked: Iterable[Request], answer: Callable) -> tuple[int, list[str]]:
     """Compares each machine's values with the definition. Returns the number of equal terms, and the messages on the
     others. If a module tests the seed for 0, the request is repeated with the seed 0."""
     texts, equal, complaints = Texts(), 0, []

@@ -173,7 +173,7 @@ def by_engine(asked):
     return outputs
 
 
-def compare_instructions(machines):
+def compare_instructions(machines: dict[str, Machine]) -> tuple[str, list[str]]:
     """Compares each instruction of the table on the machine and on the engine."""
     rng, asked = random.Random(3), []
     for opcode in BY_NAME.values():
@@ -202,7 +202,7 @@ def verdict(whole):
     return "true"
 
 
-def compare_validity(machines, count):
+def compare_validity(machines: dict[str, Machine], count: int) -> tuple[str, list[str]]:
     """Compares the validity of `count` changed modules of each machine: the engine must accept modules that are valid
     here, and refuse those that are invalid here."""
     rng, asked = random.Random(4), []

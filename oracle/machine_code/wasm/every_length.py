@@ -4,6 +4,7 @@ XXH32 and XXH64: stripe * a + r bytes, r a number. XXH3 above 240 bytes: 64 q B 
 < q, t < 64. With the default secret, a derived one and one of 192 to 199 bytes, q is 16 and J a number. With other
 secrets, of 64 + 8 q + u bytes, u < 8, J is symbolic, and q is a number below 16, or symbolic and at least 17."""
 import collections
+from typing import Iterable, Iterator
 
 from oracle import specs
 from oracle.symbolic_terms import (
@@ -27,6 +28,7 @@ from ..stripes import Part, Stripes
 from . import calls
 from .calls import WAYS, is_plain
 from .induction import proved
+from .machine import Machine
 from .values import LEAST_PLACE, SPACE
 
 LONGEST = SPACE - 1 - LEAST_PLACE
@@ -54,7 +56,7 @@ def cases():
         yield Case(last, some, some, least, most)
 
 
-def missing(found):
+def missing(found: list["Case"]) -> list[int]:
     """Returns the lengths that are not in exactly one case. Checks enough blocks: further ones are alike."""
     count = collections.Counter(
         BLOCK * B + 64 * case.J + t + 1
@@ -82,7 +84,7 @@ def own_cases():
 OWN_CASES = list(own_cases())
 
 
-def missing_own(found):
+def missing_own(found: list["OwnCase"]) -> Iterator[tuple[int, int]]:
     """Yields the (q, length) that are not in exactly one case: some blocks, and lengths near FAR."""
     for q in [*range(LEAST_STRIPES, 20), 494, 495, 496, 497]:
         for n in [*range(LONG, 64 * 20 * 2), *range(FAR - 70, FAR + 70)]:
@@ -220,12 +222,12 @@ class Proof(Cases):
             self.of_blocks(hash_name, way, n, size, lambda name, *args: Stripes(name, q, parts, *args))
 
 
-def shortest(hash_name, way):
+def shortest(hash_name: str, way: str) -> int:
     """Returns the shortest length that is proved here; shorter ones are compared one by one."""
     return int(hash_name) // 2 if is_plain(hash_name) else 0 if way in OWN_SECRET else LONG
 
 
-def show(vm, hash_name, way, each=1, rests=None):
+def show(vm: Machine, hash_name: str, way: str, each: int = 1, rests: Iterable[int] | None = None) -> Proof:
     """Proves a kind: of XXH3 each `each`-th case, of the others the given remainders. Returns the proof."""
     proof = Proof(vm)
     if is_plain(hash_name):

@@ -9,7 +9,7 @@ CALLS = 20_000
 SECONDS = 120  # of one change: a changed module may not end
 
 
-def first_difference(original, changed, seed):
+def first_difference(original: bytes, changed: bytes, seed: int) -> str:
     """Returns the first of CALLS random calls whose results differ, or an empty string."""
     request = json.dumps({"modules": [original.hex(), changed.hex()], "calls": CALLS, "seed": seed})
     try:

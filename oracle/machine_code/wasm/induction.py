@@ -2,9 +2,11 @@
 
 A cell is a variable, a lane of one, a value on the operand stack, a global, or a cell of the stack's or a live object's
 memory. After the proof of a loop, execution continues with its last iteration."""
+from typing import Any, Callable
+
 from oracle.symbolic_terms import RUNS, NotShown, minus
 
-from ..induction import Proof
+from ..induction import Family, Proof
 from ..stripes import Stripes, StripesProof
 from .values import WORD
 
@@ -31,7 +33,7 @@ class Loops:
             self.is_busy = False
 
 
-def proved(proof, family, live, ask):
+def proved(proof: Any, family: Family | None, live: list, ask: Callable[[], Any]) -> Any:
     """Returns a call's result. Proves the loops of the family, if any. The call may write to `live`."""
     loops = Loops(family, live)
     result = proof.with_loops(loops, ask)

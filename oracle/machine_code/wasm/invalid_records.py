@@ -11,6 +11,7 @@ the stripes of a block. If a byte was taken, 1 to 512 bytes are buffered.
 All other fields have any value. Of wrong accumulators there is one at a time."""
 import itertools
 import random
+from typing import Iterator
 
 from oracle.symbolic_terms import (
     Input,
@@ -31,6 +32,7 @@ from .. import coverage
 from . import calls
 from .calls import NOT_A_STREAM, Stream, answered, expect_unchanged
 from .every_length import LEAST_STRIPES, LONGEST
+from .machine import Machine
 from .values import address
 
 PLAIN, XXH3 = ("32", "64"), ("3-64", "3-128")
@@ -196,7 +198,7 @@ def initial(vm, hash_name):
     return [it.record.load(place, calls.BYTES[hash_name]) for place in places]
 
 
-def records(vm):
+def records(vm: Machine) -> Iterator[Invalid]:
     """Yields all invalid records. The secret has 64 + 8 q + e bytes."""
     for hash_name in PLAIN:
         yield from of_plain(hash_name, initial(vm, hash_name))
@@ -219,7 +221,7 @@ def stream_of(vm, record, length, *more):
     return it, dict(it.record.cells)
 
 
-def refuse(vm, record):
+def refuse(vm: Machine, record: Invalid) -> None:
     """Tests an update with each chunk, and each digest."""
     for length, facts in record.chunks:
         with given(*record.facts, *facts):
@@ -331,7 +333,7 @@ def left_out(vm, all_records, count):
                 yield f"{hash_name}: {point}"
 
 
-def refuse_all(machines):
+def refuse_all(machines: dict[str, Machine]) -> tuple[str, list[str]]:
     """Tests all records on each module, and that they are all invalid ones."""
     count = 0
     for vm in machines.values():

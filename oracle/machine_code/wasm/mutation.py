@@ -20,7 +20,8 @@ from oracle.symbolic_terms.mutation import differs
 from ..xxh3_updates import TAKE_BLOCKS
 from . import calls, every_length, executions, invalid_records, refusals
 from .comparing import Texts, with_seed_0
-from .module import Malformed, Reader
+from .machine import Machine
+from .module import Function, Malformed, Reader
 from .opcodes import OPCODES
 from .validator import Validator, ends_of
 from .xxh3_streams import ModuleUpdates
@@ -234,7 +235,7 @@ def places_of(x):
     return [place for place in range(x.at, x.end) if not (has_alignment and place == alignment)]
 
 
-def with_change(vm, function, whole):
+def with_change(vm: Machine, function: Function, whole: bytes) -> Machine:
     """Returns the machine of a module with one function's bytes replaced. Raises if it isn't valid."""
     module = copy.copy(vm.module)
     module.whole, module.functions = whole, list(module.functions)
@@ -388,7 +389,7 @@ def shown(given):
     return given.hex() if isinstance(given, bytes) else "" if given is None else str(given)
 
 
-def report(machines, name, count, seed, is_all):
+def report(machines: dict[str, Machine], name: str, count: int, seed: int, is_all: bool) -> tuple[str, list[str]]:
     """Tests `count` random changes of a module and those by hand. Returns the counts of outcomes, and the failures."""
     vm = machines[name]
     covered, texts, called = Covered(vm, is_all), Texts(), Called()

@@ -11,6 +11,7 @@ from oracle.symbolic_terms import at_most, minus, plus, times, variable
 from ..any_updates import AnyUpdates
 from . import calls, every_length, layouts
 from .induction import proved
+from .machine import Machine
 
 
 class PlainStreams(AnyUpdates):
@@ -51,7 +52,7 @@ class PlainStreams(AnyUpdates):
         )
 
 
-def show(vm, width, each=1):
+def show(vm: Machine, width: int, each: int = 1) -> PlainStreams:
     """Proves the streams of XXH32 or XXH64, with updates from every `each`-th number of buffered bytes. Returns the
     proof, or raises."""
     streams = PlainStreams(vm, str(width))

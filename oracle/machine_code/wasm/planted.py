@@ -9,6 +9,7 @@ from . import calls, every_length, refusals
 from .assembler import assembled, unsigned
 from .mutation import with_change
 from .comparing import Texts, compare, with_seed_0
+from .machine import Machine
 from .module import Malformed, Reader
 from .stripes import Takers
 from .xxh3_streams import ModuleUpdates
@@ -88,7 +89,7 @@ def answers(vm):
         yield lambda: is_same(answer(vm, request), texts.value(request))
         if vm.has_asked:
             yield lambda: is_same(answer(vm, with_seed_0(request)), texts.value(with_seed_0(request)))
-    yield lambda: refusals.refuse_any(vm, "3-64", "secret", variable("n")) is None
+    yield lambda: refusals.refuse_any(vm, "3-64", "secret", variable("n")) is None  # type: ignore[func-returns-value]
     yield lambda: every_length.show(vm, "64", "seed", rests=[3]) is not None
 
 
@@ -103,7 +104,7 @@ def refusal(vm):
     return None
 
 
-def report(machines):
+def report(machines: dict[str, Machine]) -> tuple[str, list[str]]:
     """Tests each module with each planted fault. Returns faults that pass, and unchanged modules that fail."""
     bad = []
     for name, vm in machines.items():
@@ -203,7 +204,7 @@ def of_streams(vm, ask):
     return ""
 
 
-def report_of_streams(machines):
+def report_of_streams(machines: dict[str, Machine]) -> tuple[str, list[str]]:
     """Tests each module with each fault of streams: it must pass CUT, and be refused by its proof."""
     bad = []
     for what, make, ask, message in OF_STREAMS:
@@ -217,7 +218,7 @@ def report_of_streams(machines):
     return f"{len(OF_STREAMS) * len(machines)} planted modules, each refused", bad
 
 
-def lacks_a_case(proof):
+def lacks_a_case(proof: ModuleUpdates) -> bool:
     """True if a missing update, a missing digest and missing stripes are detected."""
     updates, digests, takers = map(list, (proof.all_updates(), proof.digests(), proof.all_taken()))
     del updates[687], digests[310], takers[3]

@@ -197,7 +197,7 @@ def refusal(whole):
     return next(iter(tasks.of_memory(machine, machine.module.exports)), None)
 
 
-def report(machines, each=1):
+def report(machines: dict[str, Machine], each: int = 1) -> tuple[str, list[str]]:
     """Tests each module with each planted fault, or with every `each`-th type of an export. Returns faults that pass,
     and unchanged modules that fail. The functions of a module with a fault only trap, so that reading it is short."""
     bad = []

@@ -2,12 +2,13 @@
 tests that a counter saturates at 2^64 - 1."""
 import itertools
 
-from oracle.symbolic_terms import Memory, Request, Unsupported, at_most, given, plus, variable
+from oracle.symbolic_terms import Memory, Poly, Request, Unsupported, at_most, given, plus, variable
 
 from . import calls
 from .calls import SECRET_TOO_SHORT, Stream, answered, expect_unchanged
 from .comparing import compare
 from .every_length import LONGEST
+from .machine import Machine
 
 LEAST_SECRET = 136
 SERVED = 241  # bytes of a message from which on a seeded call needs a secret
@@ -25,14 +26,14 @@ def short_secret(n):
     return given(at_most(n, LONGEST), at_most(variable("size"), LEAST_SECRET - 1))
 
 
-def refuse_any(vm, name, way, length):
+def refuse_any(vm: Machine, name: str, way: str, length: int | Poly) -> None:
     """Tests that a one-shot refuses each secret that is too short, at a symbolic length of the message."""
     with short_secret(length):
         calls.refused_one_shot(vm, Request(name, way, length, variable("size")))
         expect_not_asked(vm)
 
 
-def one_shots_with_short_secrets(machines):
+def one_shots_with_short_secrets(machines: dict[str, Machine]) -> tuple[str, list[str]]:
     """Tests each length of a message and of a secret that is too short: a call that needs the secret is refused, others
     ignore it."""
     n, size, count = variable("n"), variable("size"), 0
@@ -48,7 +49,7 @@ def one_shots_with_short_secrets(machines):
     return f"{served} answered, {count} refused", complaints
 
 
-def streams_with_short_secrets(machines):
+def streams_with_short_secrets(machines: dict[str, Machine]) -> tuple[str, list[str]]:
     """Tests that a start with each length of such a secret leaves the record unchanged, and an update of any length and
     a digest of a started stream do so too."""
     n, size, count = variable("n"), variable("size"), 0
@@ -66,7 +67,7 @@ def streams_with_short_secrets(machines):
     return f"{count} refused", []
 
 
-def refuse_short_secret(vm, request, taken=300):
+def refuse_short_secret(vm: Machine, request: Request, taken: int = 300) -> None:
     """Tests that an update and a digest of a stream of `taken` bytes refuse a secret that is too short, also with an
     invalid record, since the secret is tested first."""
     it = started(vm, Request(request.hash_name, request.variant, taken, LEAST_SECRET), taken)
@@ -108,11 +109,11 @@ def expect_refused(it, code):
 # ---- counters
 
 
-def of_counters():
+def of_counters() -> list[Request]:
     return [Request(name, "seed", n, seed=7) for name in ("32", "64", "3-64") for n in PIECES]
 
 
-def keep_counters(vm, request):
+def keep_counters(vm: Machine, request: Request) -> None:
     """Tests an update of a stream whose counters are 2^64 - 1. They must stay so, and a digest must succeed."""
     it, places = started(vm, request, PIECES[0]), COUNTERS[request.hash_name]
     for at in places:
@@ -124,7 +125,7 @@ def keep_counters(vm, request):
         answered(it.digest(Memory("the value", calls.BYTES[name]), name))
 
 
-def counters_stay(machines):
+def counters_stay(machines: dict[str, Machine]) -> tuple[str, list[str]]:
     for vm in machines.values():
         for request in of_counters():
             keep_counters(vm, request)

@@ -1,7 +1,7 @@
 """Derives from a module's exports which functions tasks must detect, like ../removed.py: each function that an export
 reaches is replaced by `unreachable`, and some task that shows one of these exports must fail then."""
 from .. import removed
-from .machine import DOES
+from .machine import DOES, Machine
 from .values import Trap
 
 LATE = "every length", "any updates", "streams, "
@@ -29,7 +29,9 @@ def fails(ask, machines):
         return True
 
 
-def unnoticed(machines, asked, titles_of, each=1):
+def unnoticed(
+    machines: dict[str, Machine], asked: list[tuple], titles_of: dict[str, list[str]], each: int = 1
+) -> tuple[str, list[str]]:
     """Removes each function of each module, or every `each`-th export if that isn't 1. Returns how many exports and
     others it removed, and those that no task detects. `asked` has titles and tasks, `titles_of` the words of an
     export's titles."""

@@ -1,7 +1,9 @@
 """Chooses the tasks of oracle/modules: the requests of the two modules, and the task that proves each export."""
+import argparse
 import functools
 import hashlib
 import os
+from typing import Iterator
 
 from oracle.symbolic_terms import comparison, cuts
 from oracle.symbolic_terms.processes import Task, chosen
@@ -65,7 +67,7 @@ EXPORTS = {
 HEAP_ALIGNMENT = 16  # of __heap_base
 
 
-def signatures():
+def signatures() -> dict[str, tuple[tuple[int, ...], tuple[int, ...]]]:
     """Maps each exported function to its type: widths of its arguments and of its results. An address, a length and a
     code are an i32, the size of a record is an i64."""
     out = {
@@ -93,7 +95,7 @@ def signatures():
     return out
 
 
-def machines():
+def machines() -> dict[str, Machine]:
     """Maps each module's name to its machine."""
     out = {}
     for name in NAMES:
@@ -102,14 +104,14 @@ def machines():
     return out
 
 
-def checksums():
+def checksums() -> Iterator[str]:
     for name in NAMES:
         with open(os.path.join(WEB, name), "rb") as file:
             whole = file.read()
         yield f"{name}, {len(whole)} bytes, SHA-256 {hashlib.sha256(whole).hexdigest()}"
 
 
-def choose(given, machines):
+def choose(given: argparse.Namespace, machines: dict[str, Machine]) -> list[Task]:
     """Returns the tasks. The machines are made once; each task has its own copies, since it runs as a process."""
     out = [
         *lengths(given.all),
@@ -168,7 +170,7 @@ def exports(machines, titles):
     return f"{len(EXPORTS)} exports of each module", bad
 
 
-def of_memory(vm, found):
+def of_memory(vm: Machine, found: dict[str, tuple[int, int]]) -> list[str]:
     """Checks the types of a module's exports, that __heap_base is just behind the stack and the constants, and that the
     memory has the pages before it, and no limit."""
     module, known = vm.module, signatures()

@@ -2,7 +2,7 @@
 branch its target, how many values it keeps, and the height above which it drops others."""
 import collections
 
-from .module import PAGE, Malformed
+from .module import PAGE, Instruction, Malformed, Module
 
 UNKNOWN = None  # any type, of a value in unreachable code
 BOOLEAN = ADDRESS = 32
@@ -182,7 +182,7 @@ class Validator:
         self.pop(self.module.globals[index].width)
 
 
-def ends_of(code):
+def ends_of(code: list[Instruction]) -> dict[int, int]:
     """Maps a block's index in the code to its end's index; the function's own index is -1."""
     open_ones, ends = [-1], {-1: len(code) - 1}
     for pc, x in enumerate(code):
@@ -195,7 +195,7 @@ def ends_of(code):
     return ends
 
 
-def validate(module):
+def validate(module: Module) -> list[dict]:
     """Validates a module, and returns the branches of each function."""
     for place, content in module.segments:
         require(place + len(content) <= (module.pages or 0) * PAGE, "a segment outside of the memory")

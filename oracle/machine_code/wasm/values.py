@@ -4,11 +4,13 @@ import contextlib
 
 from oracle.symbolic_terms import (
     BINARY,
+    Input,
     Memory,
     Node,
     Poly,
     Undecided,
     Unsupported,
+    Value,
     at_most,
     divided,
     halves,
@@ -37,7 +39,7 @@ class Trap(Unsupported):
     """Raised if a call traps."""
 
 
-def low(x, width):
+def low(x: Value, width: int) -> Value:
     """Returns the lowest bits of a value."""
     if isinstance(x, int):
         return x & ones(width)
@@ -61,12 +63,12 @@ def nearest(x, width):
     return polynomial({names: nearest(c, width) for names, c in x.parts.items()})
 
 
-def high(x, width):
+def high(x: Value, width: int) -> Value:
     """Returns a word shifted right by `width` bits."""
     return BINARY["lshr"](WORD, x, width)
 
 
-def side_by_side(parts):
+def side_by_side(parts: list[tuple[Value, int]]) -> Value:
     """Concatenates values, each as (value, width), the lowest bits first."""
     if all(isinstance(x, int) for x, _ in parts):
         out = at = 0
@@ -76,14 +78,14 @@ def side_by_side(parts):
     return operations.side_by_side(*parts)
 
 
-def decided(x, what):
+def decided(x: Value, what: str) -> int:
     """Returns x if it is a number. Raises if a length, an amount or an address depends on symbols."""
     if not isinstance(x, int):
         raise Undecided(f"{what} that depends on {x}")
     return x
 
 
-def condition(x, what):
+def condition(x: Value, what: str) -> int:
     """True if a branch condition isn't 0."""
     return compare("ne", 32, x, 0) if isinstance(x, (Poly, Address)) else decided(x, what)
 
@@ -110,7 +112,7 @@ class Address(of_text.Address):
         return Address(self.bases, offset)
 
 
-def address(memory, at=0):
+def address(memory: Input | Memory, at: int | Poly = 0) -> "Address":
     return Address(((memory, 1),), at)
 
 
@@ -149,7 +151,7 @@ NAMES = {"shr_u": "lshr", "rem_u": "urem"}  # names of the same operations in sy
 NOTED = "add", "mul", "and", "or", "shl", "lshr"  # operations in a product by halves
 
 
-def binary(name, width, a, b):
+def binary(name: str, width: int, a: Value, b: Value) -> Value:
     if a.__class__ is Address or b.__class__ is Address:
         if name not in ("add", "sub"):
             raise Undecided(f"{name} of {a} and {b}")
@@ -189,7 +191,7 @@ def rotation(name, width, a, k):
     return rotated(width, a, a, k)
 
 
-def compare(test, width, a, b):
+def compare(test: str, width: int, a: Value, b: Value) -> int:
     """Returns the value of a test, if the values or the facts decide it."""
     if a.__class__ is Address:
         return compare_addresses(test, width, a, b)
