@@ -8,7 +8,10 @@ one change of an operand, a number, an argument or a statement.
   oracle/mutate --all            each mutant, in 2 to 3 hours of processor time
   oracle/mutate --seed NUMBER    in the order of this seed
   oracle/mutate --only WORD      only the mutants with that word
-  oracle/mutate --record         writes the counts and the unexplained mutants into oracle/verifier_mutants
+  oracle/mutate --values         CI's part: of a sixteenth of the mutants, always the same ones, the tests of values must
+                                 detect each one drawn, except those in oracle/verifier_mutants/beyond_values.txt
+  oracle/mutate --record         writes the counts and the unexplained mutants into oracle/verifier_mutants; with
+                                 --values tries the whole sixteenth, and writes those that the tests of values don't detect
   oracle/mutate --jobs NUMBER    number of processes (default: 2)
 
 First it runs all checks once, in 4 minutes of processor time, and notes which functions each calls. An undetected
@@ -34,10 +37,13 @@ from oracle.verifier_mutants import edits, runs
 HERE = os.path.dirname(os.path.abspath(__file__))
 TOP = os.path.dirname(HERE)
 RECORDS = os.path.join(HERE, "verifier_mutants")
-REASONS, COUNTS, UNEXPLAINED = (os.path.join(RECORDS, name) for name in ("reasons.txt", "counts.tsv", "undetected.txt"))
+REASONS, COUNTS, UNEXPLAINED, BEYOND_VALUES = (
+    os.path.join(RECORDS, name) for name in ("reasons.txt", "counts.tsv", "undetected.txt", "beyond_values.txt")
+)
 UNPLANTED = os.path.join(HERE, "machine_code", "unplanted.txt")
 STARTS = "__main__.py", "oracle/machine_text.py"  # which only start the tasks
 SECONDS = 180  # of processor time without --all
+SEED_OF_VALUES, PART_OF_VALUES = 1, 16  # which mutants `--values` draws from
 CHECK_TYPES = "value", "processor", "right", "planted"
 
 
@@ -52,6 +58,18 @@ def all_mutants(seed):
     found = [one for path in trusted_files() for one in edits.mutants_of(os.path.join(TOP, path), path, seed)]
     random.Random(seed).shuffle(found)
     return found
+
+
+def mutants_for_values(seed):
+    """Returns a sixteenth of the mutants, always the same ones, in the order of a seed."""
+    found = [one for one in all_mutants(SEED_OF_VALUES) if edits.part_of(SEED_OF_VALUES, one, PART_OF_VALUES) == 0]
+    random.Random(seed).shuffle(found)
+    return found
+
+
+def titles_in(path):
+    with open(path, encoding="utf-8") as file:
+        return {line.rstrip("\n") for line in file if not line.startswith("#")}
 
 
 def unplanted():
@@ -117,7 +135,30 @@ def report(outcomes, seed, total, is_recorded):
     return 1 if unexplained or not outcomes else 0
 
 
+def ask_values(given):
+    """Requires that tests of values detect each drawn mutant. Returns the exit status."""
+    mutants = mutants_for_values(given.seed)
+    if not given.record:
+        beyond = titles_in(BEYOND_VALUES)
+        mutants = [one for one in mutants if edits.title_of(one) not in beyond]
+    with tempfile.TemporaryDirectory(prefix="verifier-mutants-") as folder:
+        known = runs.Known(LOADER, folder)
+        coverage = runs.Coverage(known, CHECK_TYPES[:1])
+        outcomes = [*runs.run_all(known, coverage, mutants, given.jobs, None if given.record else given.seconds)]
+    undetected = sorted({one.title for one in outcomes if one.what == runs.UNDETECTED})
+    if given.record:
+        with open(BEYOND_VALUES, "w", encoding="utf-8") as file:
+            print("# Mutants that `oracle/mutate --values` doesn't draw: tests of values don't detect them.", file=file)
+            print(*undetected, sep="\n", file=file)
+    print(*(f"    undetected: {title}" for title in undetected), sep="\n")
+    print(f"seed {given.seed}: {len(outcomes)} of {len(mutants)} mutants, detected by tests of values")
+    print(f"{len(outcomes) - len(undetected)} passed, {len(undetected)} failed")
+    return 1 if undetected or not outcomes else 0
+
+
 def ask(given):
+    if given.values:
+        return ask_values(given)
     mutants = [one for one in all_mutants(given.seed) if given.only in edits.title_of(one)]
     with tempfile.TemporaryDirectory(prefix="verifier-mutants-") as folder:
         known = runs.Known(LOADER, folder)
@@ -131,6 +172,7 @@ def main():
     options.add_argument("--seconds", type=int, default=SECONDS, help="processor time")
     options.add_argument("--seed", type=int, default=random.SystemRandom().randrange(10**6), help="seed of the order")
     options.add_argument("--only", default="", help="try only the mutants with this word")
+    options.add_argument("--values", action="store_true", help="require that tests of values detect recorded mutants")
     options.add_argument("--record", action="store_true", help="write the counts and the unexplained mutants")
     options.add_argument("--jobs", type=int, default=2, help="number of processes")
     return antt.with_deep_recursion(ask, options.parse_args())

@@ -38,6 +38,7 @@ BESIDE_PROOFS = [
     ("the assembly text beside the definitions", 140, "nice -n10 oracle/machine-text"),
     ("the crate's calls, as rustc compiles them, beside the definitions", 95, "nice -n10 oracle/rust-object"),
     ("the modules for browsers beside the definitions", 53, "nice -n10 oracle/modules"),
+    ("changes of the verifier, and its tests of values", 30, "nice -n10 oracle/mutate --values --seconds 60"),
 ]
 BEFORE_PROOFS = [
     ("the table beside the reference library", 4, "oracle/make-vectors --check"),

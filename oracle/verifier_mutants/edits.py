@@ -174,6 +174,11 @@ def hash_of(seed, one):
     return hashlib.sha256(f"{seed} {one.path} {one.function} {one.before} {one.after}".encode()).hexdigest()
 
 
+def part_of(seed: int, one: Mutant, parts: int) -> int:
+    """Returns to which of so many parts a mutant belongs. Other lines of its file don't change that."""
+    return int(hash_of(seed, one), 16) % parts
+
+
 def written(node):
     ast.fix_missing_locations(node)
     text = " ".join(ast.unparse(node).split())

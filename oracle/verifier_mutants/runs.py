@@ -17,7 +17,7 @@ from oracle import antt
 
 from . import edits, patches
 
-LONGEST, MOST_MEMORY = 40, 5 << 30  # CPU seconds and bytes of memory of a mutant
+LONGEST, MOST_MEMORY = 120, 5 << 30  # CPU seconds and bytes of memory of a mutant: more than all checks in BUDGET take
 WAITING = 600  # seconds until a mutant whose processes wait for each other ends
 BUDGET = {"value": 60, "processor": 3, "right": 5, "planted": 5}  # CPU seconds of the checks of a kind, for a mutant
 UNDETECTED, EQUAL = "undetected", "equal code"
@@ -43,12 +43,14 @@ class Known:
 
 
 class Coverage:
-    """What each check calls, and where each planted file is refused."""
+    """What each check of some types calls, and where each planted file is refused."""
 
-    def __init__(self, known):
+    def __init__(self, known, types=tuple(BUDGET)):
         self.called, self.seconds, self.frames = {}, {}, {}
         files = {*known.loader.paths.values()}
         for k, one in enumerate(known.checks):
+            if one.type not in types:
+                continue
             known.module.begin()
             began = time.process_time()
             if one.type == "planted":
