@@ -3,6 +3,7 @@ generator and raises Wrong."""
 
 import types
 import unittest.mock
+from typing import Any
 
 from assembly import eh_frame
 from oracle.machine_code import calls, cargo_calls, cargo_streams, disassembly, every_length, object_contents
@@ -97,7 +98,7 @@ def seeds_in_one_place(_):
 
 def variants_of_forgotten(_):
     """Tests that the states of XXH32 and XXH64 are reset with a seed before they are freed, those of XXH3 with none."""
-    asked = []
+    asked: Any = []
     with unittest.mock.patch.multiple(
         calls,
         reset=lambda cpu, request, state: asked.append((request.hash_name, request.variant)) or (calls.OK, 0),

@@ -4,6 +4,7 @@ generator and raises Wrong."""
 import itertools
 import types
 import unittest.mock
+from typing import Any
 
 from oracle.machine_code import any_secret, unwinding, xxh3_states, xxh3_updates
 from oracle.machine_code.every_length import FAR
@@ -193,6 +194,7 @@ def stripes_without_remainder(_):
 def states_of_updates(_):
     """Tests what an update assumes of a state's last stripe and of lost counters, and what it requires afterwards."""
     b, j, lost = (variable(name) for name in ("b", "j", "lost"))
+    seen: Any
     for is_short, has_parts, is_lost in itertools.product((False, True), repeat=3):
         proof, seen = xxh3_states.Through(new_processor()), {}
         state = types.SimpleNamespace(store=lambda at, n, x: None)
