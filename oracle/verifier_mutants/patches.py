@@ -76,12 +76,15 @@ def own(code):
 
 
 def differing(old, new):
-    """Yields the code objects (old, new) that differ themselves, the outermost ones."""
+    """Yields the code objects (old, new) that differ themselves, the outermost ones, and before each one the functions
+    around it: functions that these define later get the other code too."""
     if own(old) != own(new):
         yield old, new
-    else:
-        for a, b in zip(inner(old), inner(new)):
-            yield from differing(a, b)
+        return
+    found = [pair for a, b in zip(inner(old), inner(new)) for pair in differing(a, b)]
+    if found and old.co_flags & 2:
+        yield old, new
+    yield from found
 
 
 def key_of(code: types.CodeType) -> tuple[str, str]:
@@ -110,12 +113,15 @@ class Patch:
         )  # a function's locals are optimized
 
     def put(self, by_code):
-        """Gives the functions their other code. Returns whether there were any for each code object, and none inside
-        it that exist already and keep their code."""
+        """Gives the functions their other code. Returns whether there were any for the outermost code objects, and none
+        inside a changed one that exist already and keep their code."""
+        changed = {id(old) for old, _ in self.pairs}
         for old, new in self.pairs:
             for function in by_code.get(id(old), ()):
                 function.__code__ = new
-        return all(by_code.get(id(old)) and not any(by_code.get(id(x)) for x in within(old)) for old, _ in self.pairs)
+        inside = {id(x) for old, _ in self.pairs for x in within(old)}
+        rewritten = {id(x) for old, new in self.pairs if own(old) != own(new) for x in within(old)}
+        return all(by_code.get(code) for code in changed - inside) and not any(map(by_code.get, rewritten))
 
 
 def import_again(loader: "Loader", patch: "Patch") -> types.ModuleType:
