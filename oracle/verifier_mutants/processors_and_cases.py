@@ -86,7 +86,7 @@ def equal_operands(_):
         TABLE["test", "qq"][1](cpu, instruction("test", rax, rax))
         expect(cpu.condition("ne"), True, "a number that isn't 0")
         cpu = new_processor()
-        cpu.vectors[0][:2] = 0, n
+        cpu.vectors[0] = [0, n, *[0] * 6]
         TABLE["vptest", "xx"][1](cpu, instruction("vptest", Register("xmm0"), Register("xmm0")))
         expect(cpu.condition("ne"), True, "a vector that isn't 0")
 
