@@ -98,7 +98,7 @@ def turns_of(case: Case, point: dict[str, int]) -> tuple[int, int | None]:
     return least, min(ends, default=None)
 
 
-def spans(found, period):
+def spans(found: list[Case], period: int) -> dict[int, list]:
     """Maps each remainder modulo the period to the spans of quotients in the cases."""
     out = collections.defaultdict(list)
     for case in found:

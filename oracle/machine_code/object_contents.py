@@ -65,7 +65,7 @@ def expect_section(object_, head):
                 f"{head.name} of another section")
 
 
-def expect_notes(object_):
+def expect_notes(object_: Object) -> None:
     """Checks the notes: on x86-64 the one for shadow stacks and an assembler's list of instructions, else none."""
     found = [head for head in object_.heads if head.kind == NOTE]
     notes = [note for head in found for note in notes_of(object_.body(head), 8)]

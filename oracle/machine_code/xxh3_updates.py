@@ -73,7 +73,7 @@ def starts(whole: int, is_split: bool, gs: Iterable[int] | None = None) -> Itera
             yield from ends_of_blocks(whole, g, r, [*of_r, *of_g])
 
 
-def ends_of_blocks(whole, g, r, facts):
+def ends_of_blocks(whole: int, g: Any, r: Any, facts: list) -> Iterator[Start]:
     b, i, y, q = (variable(name) for name in "biyq")
     if whole <= FEW_STRIPES:
         yield from (Start((b, minus(q, g - k)), g, r, (plus(b, 1), k), facts) for k in range(g))

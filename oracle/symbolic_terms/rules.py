@@ -80,14 +80,13 @@ def joined_with(low: tuple[int, int, tuple], high: tuple[int, int, tuple]) -> tu
     if len(atoms) != len(others):
         return None
     if any(atom != other or first + n != second for (atom, first), (other, second) in zip(atoms, others)):
-        atoms = lower_neighbours(others, n)
-        if atoms != low[2]:
+        if lower_neighbours(others, n) != low[2]:
             return None
         atoms = tuple(sorted((other, second - n) for other, second in others))
     return n + m, constant | above << n, atoms
 
 
-def lower_neighbours(atoms, n):
+def lower_neighbours(atoms: tuple, n: int) -> tuple | None:
     """Returns the atoms of the n bits below some atoms, or None. A sum's low bits may be a narrower sum's."""
     out = []
     for atom, first in atoms:
@@ -362,7 +361,7 @@ def joined_runs(runs, mask):
     return out
 
 
-def add_run(runs, start, length, constant, c, mask):
+def add_run(runs: list, start: int, length: int, constant: int, c: int, mask: int) -> None:
     if runs:
         first, n, low, d = runs[-1]
         if first + n == start and d << n & mask == c:

@@ -386,7 +386,7 @@ def turns_of_cases(_):
 # ---- streams of XXH32 and XXH64
 
 
-def plain(name="64"):
+def plain(name: str = "64") -> AnyUpdates:
     proof = AnyUpdates(processors.new_processor(), name)
     recursion = suppositions.around(
         lambda seed, message, j, k: symbol(f"word {k} {j} of {name}", int(name)), "accumulator"

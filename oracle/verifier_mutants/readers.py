@@ -605,7 +605,7 @@ f:
 """
 
 
-def followed(text, proof_class="x86-64"):
+def followed(text: str, proof_class: str = "x86-64") -> None:
     with tempfile.NamedTemporaryFile() as file:
         file.write(text.encode())
         file.flush()

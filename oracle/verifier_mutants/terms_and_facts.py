@@ -60,7 +60,9 @@ def parts_of_values(_):
     expect(operations.add_at(64, (1, inner), (512, c)) is beside, True, "a sum beside other bits")
     found = operations.add_at(64, (1, beside), (1, z))
     expect(found is operations.add_at(64, (1, a), (1, b), (512, c), (1, z)), True, "a sum of parts side by side")
-    expect(rules.add_run([], 3, 4, 0, 1, 255) is None, True, "the first run")
+    runs: list = []
+    rules.add_run(runs, 3, 4, 0, 1, 255)
+    expect(runs == [(3, 4, 0, 1)], True, "the first run")
 
 
 def continued_coefficients(_):
