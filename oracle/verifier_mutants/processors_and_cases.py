@@ -49,6 +49,21 @@ def halves_of_saved_registers(_):
             expect(found == (0, {}, loaded, [name], NOTHING), True, f"a load of {used}")
 
 
+def returns_of_external_functions(_):
+    """Tests that the return of an external function unsets what is below the stack pointer, and keeps what is above."""
+    cpu = new_processor()
+    cpu.push(9)
+    cpu.push(7)
+    memory, at = cpu.registers["rsp"].place()
+    memory.store(at - 8, 8, 5)
+    cpu.registers.update(rbx=3, rcx=4)
+    expect(cpu.return_from_another(), 7, "the return address")
+    refuses(lambda: memory.load(at - 8, 8), "a value below the stack pointer")
+    expect(cpu.pop(), 9, "a value above the stack pointer")
+    expect(cpu.registers["rbx"], 3, "a saved register")
+    expect(cpu.registers["rcx"].__class__ is int, False, "a register that isn't saved")
+
+
 def shifts_by_nothing(_):
     """Tests that a shift by 0 bits keeps any value, also an address."""
     for mnemonic in ("shlx", "shrx"):
@@ -264,5 +279,5 @@ ALL = [
     *(bytes_of_conditions, halves_of_saved_registers, shifts_by_nothing, shifts_of_addresses, equal_operands),
     *(orders_of_bytes, frames_behind_jumps, masks_of_numbers, totals_of_updates, consecutive_stripes),
     *(buffered_stripes, stripes_without_remainder, states_of_updates, short_messages, stripes_of_any_secret),
-    ends_within_buffers,
+    *(ends_within_buffers, returns_of_external_functions),
 ]
