@@ -8,10 +8,10 @@ one change of an operand, a number, an argument or a statement.
   oracle/mutate --all            each mutant, in 2 to 3 hours of processor time
   oracle/mutate --seed NUMBER    in the order of this seed
   oracle/mutate --only WORD      only the mutants with that word
-  oracle/mutate --values         CI's part: of a sixteenth of the mutants, always the same ones, the tests of values must
+  oracle/mutate --values         CI's part: of a sixteenth of the mutants, always the same ones, tests of values must
                                  detect each one drawn, except those in oracle/verifier_mutants/beyond_values.txt
   oracle/mutate --record         writes the counts and the unexplained mutants into oracle/verifier_mutants; with
-                                 --values tries the whole sixteenth, and writes those that the tests of values don't detect
+                                 --values tries the whole sixteenth, and writes those that no test of values detects
   oracle/mutate --jobs NUMBER    number of processes (default: 2)
 
 First it runs all checks once, in 4 minutes of processor time, and notes which functions each calls. An undetected

@@ -180,7 +180,7 @@ def resets_of_states(_):
     ):
         proof = proof_class(new_processor())
         own, value = proof_class is xxh3_states.OwnSecret, symbol("seed64", 64) if seed == "seed" else seed
-        words = proof.secret if name.startswith(xxh3_states.RESET) else proof.texts["derived_secret"](value)
+        secret = proof.secret if name.startswith(xxh3_states.RESET) else proof.texts["derived_secret"](value)
         fields = {
             8 * k + proof.at.accumulator: proof.texts["Long.accumulator_after"](proof.secret, b"", k, 0)
             for k in range(8)
@@ -195,7 +195,7 @@ def resets_of_states(_):
             else {proof.at.secret_length: proof.secret_length, proof.at.address: symbol("address", 64)}
         )
         fields |= {proof.at.seed: value} if seed is not None else {}
-        fields |= {proof.at.secret + k: proof.texts["word64"](words, k) for k in range(0, 192, 8)} if own else {}
+        fields |= {proof.at.secret + k: proof.texts["word64"](secret, k) for k in range(0, 192, 8)} if own else {}
         for wrong in (None, *list(fields)[::5], proof.at.mark, proof.at.seed, proof.at.secret + 8):
 
             def run(live, *_, **__):
