@@ -136,11 +136,12 @@ def report(outcomes, seed, total, is_recorded):
 
 
 def ask_values(given):
-    """Requires that tests of values detect each drawn mutant. Returns the exit status."""
+    """Requires that tests of values detect each drawn mutant, and that each exception is a mutant. Returns the exit
+    status."""
     mutants = mutants_for_values(given.seed)
-    if not given.record:
-        beyond = titles_in(BEYOND_VALUES)
-        mutants = [one for one in mutants if edits.title_of(one) not in beyond]
+    beyond = set() if given.record else titles_in(BEYOND_VALUES)
+    stale = sorted(beyond - {edits.title_of(one) for one in mutants})
+    mutants = [one for one in mutants if edits.title_of(one) not in beyond and given.only in edits.title_of(one)]
     with tempfile.TemporaryDirectory(prefix="verifier-mutants-") as folder:
         known = runs.Known(LOADER, folder)
         coverage = runs.Coverage(known, CHECK_TYPES[:1])
@@ -150,10 +151,15 @@ def ask_values(given):
         with open(BEYOND_VALUES, "w", encoding="utf-8") as file:
             print("# Mutants that `oracle/mutate --values` doesn't draw: tests of values don't detect them.", file=file)
             print(*undetected, sep="\n", file=file)
-    print(*(f"    undetected: {title}" for title in undetected), sep="\n")
-    print(f"seed {given.seed}: {len(outcomes)} of {len(mutants)} mutants, detected by tests of values")
-    print(f"{len(outcomes) - len(undetected)} passed, {len(undetected)} failed")
-    return 1 if undetected or not outcomes else 0
+    for title in undetected:
+        print(f"    undetected: {title}")
+    for title in stale:
+        print(f"    no such mutant: {title}")
+    if undetected or stale:
+        print("Add a test of values, or write the exceptions again: oracle/mutate --values --record")
+    print(f"seed {given.seed}: {len(outcomes)} of {len(mutants)} mutants tried, {len(beyond)} excepted")
+    print(f"{len(outcomes) - len(undetected)} passed, {len(undetected) + len(stale)} failed")
+    return 1 if undetected or stale or not outcomes else 0
 
 
 def ask(given):
@@ -175,4 +181,7 @@ def main():
     options.add_argument("--values", action="store_true", help="require that tests of values detect recorded mutants")
     options.add_argument("--record", action="store_true", help="write the counts and the unexplained mutants")
     options.add_argument("--jobs", type=int, default=2, help="number of processes")
-    return antt.with_deep_recursion(ask, options.parse_args())
+    given = options.parse_args()
+    if given.record and given.only:
+        options.error("--record is for all mutants")
+    return antt.with_deep_recursion(ask, given)
