@@ -9,7 +9,7 @@ from . import calls, exports
 from .aarch64 import objects, table
 from .instructions import V1, V3
 from .objects import Program
-from .planted import VERSION, Asked, Wrong, begun, ended, function, request, substituted
+from .planted import VERSION, Asked, Wrong, begun, ended, request, substituted
 from .processor import Processor
 from .unwinding import expect_frames
 from .values import Cpu
@@ -156,7 +156,6 @@ WITH_BYTES = [
         begun(VERSION, ".byte 0xc5,0xfa,0x77"),
         "c5fa77, which aren't its own",
     ),
-    ("vzeroupper in other such bytes", begun(VERSION, ".byte 0xc5,0xf9,0x77"), "c5f977, which aren't its own"),
     (
         "a move in the bytes of another assembler",
         begun(VERSION, ".byte 0x48,0x8b,0xc7"),
@@ -172,7 +171,6 @@ ARM_BYTES = [("a product whose fixed bits are others", begun(VERSION, ".inst 0x9
 SHARED = [
     *((what, change, of_object, message) for what, change, message in LISTED),
     ("an export that is missing", local("XXH64_update"), of_exports, "XXH64_update isn't exported"),
-    ("an export that no header names", ended(*function("malloc", ".globl malloc")), of_exports, "malloc is exported"),
     (
         "a frame of another depth",
         substituted(r"^\t\.cfi_def_cfa_offset \d+$", "\t.cfi_def_cfa_offset 8000"),
