@@ -422,7 +422,7 @@ def starts_of_updates(_):
 
 def digests(_):
     """Tests that each state has a digest's case: each number of bytes to 240, and points with stripes."""
-    for proof_class in (xxh3_states.OwnSecret, xxh3_states.CallersSecret):
+    for proof_class in (xxh3_states.OwnSecret, xxh3_states.CallersSecret, cargo_streams.CargoUpdates):
         proof = proof_class(processors.new_processor())
         cases = list(proof.digests())
         short = [f for place, f, *_ in cases if is_same_number(place[0], 0) and isinstance(f, int)]
@@ -432,9 +432,24 @@ def digests(_):
         expect(len(list(coverage.without_digest(cases, proof, 60))), 0, "states without a digest")
 
 
+def edges_of_digests(_):
+    """Tests that states with few stripes before a full or nearly full buffer, or around 241 bytes, have a digest's
+    case."""
+    for proof_class in (xxh3_states.OwnSecret, xxh3_states.CallersSecret, cargo_streams.CargoUpdates):
+        proof, q = proof_class(processors.new_processor()), 16
+        edges = {64 * k + more for k in range(proof.whole + 1) for more in (-16, -15, -1, 0, 1, 48, 49)}
+        states = [
+            (q, 0, *divmod(stripes, q), f)
+            for stripes, f in itertools.product((0, 1, 2, 3, q - 1, q, 3 * q - 1), edges & {*range(proof.capacity + 1)})
+            if not stripes or f and 64 * stripes + f > 240
+        ]
+        with patched(coverage, "states", lambda *_: states):
+            expect(len([*coverage.without_digest(proof.digests(), proof, 0)]), 0, "states without a digest")
+
+
 def whole_digests(_):
     """Tests that the stripes of a digest's buffer begin at its state's place and end where they should."""
-    for proof_class in (xxh3_states.OwnSecret, xxh3_states.CallersSecret):
+    for proof_class in (xxh3_states.OwnSecret, xxh3_states.CallersSecret, cargo_streams.CargoUpdates):
         proof = proof_class(processors.new_processor())
         for place, f, facts, stripes in proof.digests():
             for part in stripes:
@@ -673,6 +688,7 @@ ALL = [
     chunks,
     starts_of_updates,
     digests,
+    edges_of_digests,
     whole_digests,
     cases_of_chunks,
     several_updates,
