@@ -11,8 +11,8 @@ and a program that uses each public type and function. Other builds have no asse
   oracle/rust-object --jobs NUMBER   number of processes (default: 2)
 
 This covers the public calls as exports of one object from this rustc, each instruction set of the assembly source, and
-the choice between them. It doesn't cover code that rustc inlines into another program. It needs rustc and binutils. The
-last line is "N passed, M failed"; the exit status is 1 if one failed."""
+the choice between them. It doesn't cover code that rustc inlines into another program. It needs rustc, gcc, binutils
+and, for one task, an x86-64-v3 processor. The last line is "N passed, M failed"; the exit status is 1 if one failed."""
 import os
 import tempfile
 
@@ -29,7 +29,7 @@ def main():
     options.add_argument("--target", choices=("x86-64", "aarch64"), default="x86-64", help="processor")
     given = options.parse_args()
     if given.target == "x86-64":
-        tools.install_packages({"rustc": "rustc-web", "objdump": "binutils"})
+        tools.install_packages({"rustc": "rustc-web", "gcc": "gcc", "objdump": "binutils"})
         return processes.run(tasks.choose(given, compilers.for_x86()), given.jobs)
     tools.install_packages(FOR_ARM)
     with tempfile.TemporaryDirectory(prefix="rust-object-") as workdir:

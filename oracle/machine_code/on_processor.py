@@ -42,7 +42,8 @@ REGISTERS, VECTORS, COMPARED, MEMORY, AFTER, VECTORS_AFTER, FLAGS_AFTER, SIZE = 
 WHOLE = 8 * LANES  # bytes of a vector
 FLAGS = "b", "e", "a"
 SOME_FLAGS = {
-    **dict.fromkeys(("imul", "mul", "div", "shld", "shrd", "rol", "ror"), ""),  # the flags that are set
+    # The flags that are set.
+    **dict.fromkeys(("imul", "mul", "mulq", "div", "divl", "divq", "shld", "shrd", "rol", "ror", "bzhi"), ""),
     **dict.fromkeys(("shl", "shr", "vptest"), "e"),
 }
 BASES = "rdi", "rsi", "r9", "r10"
@@ -210,10 +211,10 @@ def inputs(mnemonic: str, lines: list[str], rng: random.Random) -> bytearray:
     if rng.random() < 0.2:
         rax, rbx = (8 * LOADED.index(name) for name in ("rax", "rbx"))
         data[rbx : rbx + 8] = data[rax : rax + 8]
-    if mnemonic == "div":  # a dividend of one word, and an odd divisor
-        at, name = 8 * LOADED.index("rdx"), PARTS[lines[0].split("%")[1]][0]
+    if mnemonic.startswith("div"):  # a dividend of one word, and an odd divisor
+        at, name = 8 * LOADED.index("rdx"), lines[0].split("%")[1]
         data[at : at + 8] = bytes(8)
-        data[8 * LOADED.index(name)] |= 1
+        data[MEMORY if "(" in lines[0] else 8 * LOADED.index(PARTS[name][0])] |= 1
     return data
 
 
@@ -284,12 +285,13 @@ def compare(
     own: dict[str, bytes] | None = None,
     snippets: list[list[str]] = SNIPPETS,
     reader: type[Program] = Snippets,
+    processor: type[Processor] = Processor,
 ) -> tuple[int, list[str]]:
     """Tests instructions, each with its form, and snippets. Returns their number and the differences. `own` maps
     instructions to the bytes that they must have."""
     forms, snippets = [*texts.values(), *[None] * len(snippets)], [*([text] for text in texts), *snippets]
     library, program = assembled(snippets, workdir, reader)
-    cpu, rng, wrong = Processor(program, processor_here()), random.Random(1), []
+    cpu, rng, wrong = processor(program, processor_here()), random.Random(1), []
     whole = ctypes.create_string_buffer(SIZE + 64)
     first = -ctypes.addressof(whole) % 64
     state = (ctypes.c_ubyte * SIZE).from_buffer(whole, first)

@@ -12,7 +12,7 @@ import functools
 import re
 from typing import Callable
 
-from oracle.symbolic_terms import Unsupported, is_natural, is_number, is_same_number, minus
+from oracle.symbolic_terms import Unsupported, is_natural, is_number, is_same_number, minus, ones
 from oracle.symbolic_terms.memory import Unset
 
 from .. import lanes
@@ -34,7 +34,7 @@ from ..memory import ReturnTo, WordMemory
 from ..objects import PC32, PLT32, Instruction, Program, Register, split
 from ..processor import Processor
 from ..scalar import binary, compare, divide, step, test, whole_product
-from ..values import address, low
+from ..values import WORD, address, arithmetic, low
 from ..stream_state import State
 from .library import ForRust
 
@@ -171,6 +171,20 @@ def exchange(cpu, x):
     cpu.registers[first], cpu.registers[second] = cpu.registers[second], cpu.registers[first]
 
 
+def keep_bits(cpu, x, count, source, to):
+    """Clears the bits from a number on, the low byte of `count`."""
+    k, word = low(cpu.get(count, WORD, x), 8), cpu.get(source, WORD, x)
+    if not isinstance(k, int):
+        raise Unsupported("a number of bits that is no number")
+    cpu.put(to, WORD, arithmetic("and", WORD, word, ones(min(k, WORD))), x)
+    cpu.forget_flags()
+
+
+def store_half(cpu, x, k, source, place):
+    """Stores the lower or upper half of a vector of 256 bits."""
+    lanes.write(cpu, place, x, cpu.lanes(source, 2, 2 * (k.value & 1)))
+
+
 def with_operands(function):
     return lambda cpu, x: function(cpu, x, *x.operands)
 
@@ -194,6 +208,8 @@ OWN = {
             ("dec", "b"): step,
             ("testl", "im"): test,
             ("or", "ib"): binary("or", "logic"),
+            ("bzhi", "qmq"): keep_bits,
+            ("vextracti128", "iym"): store_half,
         }.items()
     },
 }

@@ -3,18 +3,20 @@ import argparse
 import functools
 import itertools
 import re
+import tempfile
 
 from oracle.symbolic_terms import comparison, cuts, processes
 from oracle.symbolic_terms.comparison import title_of
 
-from .. import any_updates, every_length, xxh3_updates
+from .. import any_updates, every_length, on_processor, xxh3_updates
 from ..instructions import V1, V3
 from ..one_shots import is_plain
+from ..processor import Processor
 from ..tasks import SOME_SHORT, UPDATE_PARTS, any_streams, compared, count_shown, counted, of_each
 from . import choice, names, planted, uses, xxh3_streams
 from .compilers import ASSEMBLY, SCALAR_BUILD, Compiler
 from .inductions import RustUpdates, cases_of, of_any_secret
-from .objects import LEVELS
+from .objects import LEVELS, OWN, known_where_reached
 
 SECRETS = (136, 192)
 ONE_BY_ONE = range(301)
@@ -44,6 +46,10 @@ def choose(given: argparse.Namespace, compilers: list[Compiler]) -> list[process
         counted("the program uses each public name", FEWEST_NAMES, names.left_out),
         counted("a public function without a use is refused", 1, new_name_is_missing),
     ]
+    if compilers[0].name == V1:
+        out.append(
+            counted("instructions that only rustc's objects have, beside the processor", 12, forms_beside_processor)
+        )
     for compiler in compilers if given.all else [one for one in compilers if one.name != V3]:
         program = compiler.program_of()
         make = functools.partial(compiler.processor, program)
@@ -54,6 +60,19 @@ def choose(given: argparse.Namespace, compilers: list[Compiler]) -> list[process
         out += called_tasks(compiler.name, make, program, processors, given.all)
     out += fault_tasks(given, compilers)
     return processes.chosen(out, given)
+
+
+class ProcessorOfForms(Processor):
+    known = staticmethod(known_where_reached)
+
+
+def forms_beside_processor():
+    """Compares the forms that only rustc's objects have with this processor."""
+    on_processor.expect_processor()
+    forms = [(mnemonic, form) for mnemonic, form in OWN if form and " " not in mnemonic]
+    with tempfile.TemporaryDirectory(prefix="rust-object-") as workdir:
+        texts = {on_processor.sampled(*form): form for form in forms}
+        return on_processor.compare(texts, workdir, snippets=[], processor=ProcessorOfForms)
 
 
 def build_tasks(name, processors, is_all):
