@@ -420,6 +420,20 @@ def starts_of_updates(_):
     expect([value_at(fact, {"g": 5}) for fact in facts] == [3, 3] and g == variable("g"), True, "many stripes")
 
 
+def starts_of_full_buffers(_):
+    """Tests that a buffer of a given number of stripes has a start at each place in a block, with the right end."""
+    for g, is_split, q in itertools.product((7, 8), (False, True), (9, 16)):
+        found = list(xxh3_updates.starts(8, is_split, [g]))
+        for j, r in itertools.product(range(q), (0, 1, 20, 63)):
+            point = {"q": q, "b": 5, "j": j, "r": r, "y": g - (q - j)}
+            expected = 5, j, g, r, 5 + (j + g) // q, (j + g) % q
+            if not any(
+                coverage.has(point, one.facts, [*zip((*one.place, one.g, one.r, *one.behind), expected)])
+                for one in found
+            ):
+                raise Wrong(f"no start of {g} stripes has {point}")
+
+
 def digests(_):
     """Tests that each state has a digest's case: each number of bytes to 240, and points with stripes."""
     for proof_class in (xxh3_states.OwnSecret, xxh3_states.CallersSecret, cargo_streams.CargoUpdates):
@@ -687,6 +701,7 @@ ALL = [
     queries,
     chunks,
     starts_of_updates,
+    starts_of_full_buffers,
     digests,
     edges_of_digests,
     whole_digests,

@@ -50,6 +50,14 @@ def bytes_of_arm(_):
         refuses(lambda: disassembly.expect_bytes(program), "other bytes of a jump", REFUSALS)
 
 
+def long_texts(_):
+    """Tests that a text of more bytes than a slot is refused, since the slots of other texts would move."""
+    for size, is_right in ((15, True), (16, True), (17, False), (40, False)):
+        with patched(disassembly, "assembled", {}):
+            ask = lambda: disassembly.assembled_alone({f".skip {size}", "ret"}, "x86-64")
+            ask() if is_right else refuses(ask, f"a text of {size} bytes", (ValueError,))
+
+
 def prefixes(_):
     """Tests which prefixes an instruction that does nothing may have."""
     for text, expected in (
@@ -229,6 +237,6 @@ def chosen_by_options(_):
 
 
 ALL = [
-    *(repeated_sections, bytes_of_arm, prefixes, notes, seeds_in_one_place, variants_of_forgotten, refused_chunks),
-    *(empty_chunks, large_chunks, resets_of_states, turns_of_lengths, chosen_by_options),
+    *(repeated_sections, bytes_of_arm, long_texts, prefixes, notes, seeds_in_one_place, variants_of_forgotten),
+    *(refused_chunks, empty_chunks, large_chunks, resets_of_states, turns_of_lengths, chosen_by_options),
 ]

@@ -169,6 +169,15 @@ def tables(rng):
     refused("another processor", right, LEAD, machine=3)
 
 
+def local_names(_):
+    """Tests that frames belong to their section, even if a local symbol of another section has its name."""
+    parts = Parts(HEAD + FUNCTION, LEAD)
+    parts.heads.append(types.SimpleNamespace(name=".text.g", flags=6, size=16))
+    parts.symbols.append(types.SimpleNamespace(name=".text.f", section=len(parts.heads) - 1, info=0, value=0))
+    if eh_frame.Table(parts).functions.keys() != {".text.f"}:
+        raise Wrong("frames of another section")
+
+
 def instruction(mnemonic, *operands, target=None):
     return Instruction("f", 0, 4, mnemonic, operands, target)
 
@@ -435,4 +444,4 @@ def bytes_of_text(rng):
     refuses(lambda: disassembly.expect_bytes(program(right, "cb")), "another last instruction")
 
 
-ALL = [jumps, bytes_of_text, frames, tables, effects, followed_frames, notes]
+ALL = [jumps, bytes_of_text, frames, tables, local_names, effects, followed_frames, notes]

@@ -198,6 +198,9 @@ def unreadable(_):
         "f n = λ x",
         "f ( zero n ) = n",
         "f n = 2 . 3",
+        "f _ = _",
+        "f then = then",
+        "f n = let x n = 1 in x",
     ):
         with Folder({("a", "A"): f"f : ℕ → ℕ\n{text}\n"}) as known:
             refuses(lambda: antt.Program(known, ["f"]).run(), f"the text {text}", (Unreadable, IndexError, ValueError))

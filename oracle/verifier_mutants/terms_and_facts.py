@@ -51,6 +51,14 @@ def widths_of_results(_):
     expect(operations.add_at(8, (1, a), (1, b)).width, 8, "the width of a sum modulo 2^8")
 
 
+def products_of_powers(_):
+    """Tests that a product of two values of at most 2^8 is 0 modulo 2^16 if both are 2^8."""
+    a, b = (operations.add(symbol(f"{name}8", 8), 1) for name in "ab")
+    found = operations.multiply_at(16, a, b)
+    for x, y in ((255, 255), (255, 254), (0, 255)):
+        expect(nodes.values_at([found], {"a8": x, "b8": y})[0], (x + 1) * (y + 1) % (1 << 16), f"{x + 1} * {y + 1}")
+
+
 def parts_of_values(_):
     """Tests sums of values side by side: an exact inner sum is taken apart, and each part has its place."""
     a, b, c = (symbol(f"{name}8", 8) for name in "abc")
@@ -87,6 +95,17 @@ def complements(_):
     expect(BINARY["xor"](64, x, ones) is operations.xor(x, ones), True, "the bits of a complement")
     total = operations.add_at(64, (1, x), (1, 5))
     expect(BINARY["xor"](64, total, ones) is operations.add_at(64, (-1, x), (1, ones - 5)), True, "of a sum")
+
+
+def flipped_sums(_):
+    """Tests the xor of a sum and a number, in both orders. Only all ones give the sum's complement."""
+    x, y = symbols_of("x", "y")
+    for width in (32, 64):
+        total, ones = operations.add_at(width, (1, x), (1, y)), (1 << width) - 1
+        for c in (1, 5, 1 << width - 1, ones >> 1, ones - 1, ones):
+            for found in (BINARY["xor"](width, total, c), BINARY["xor"](width, c, total)):
+                for k in range(nodes.POINTS):
+                    expect(value_of(found, k), value_of(total, k) ^ c, f"a sum of {width} bits xor {c:#x}")
 
 
 def narrowed_values(_):
@@ -231,6 +250,17 @@ def assumed_functions(_):
     expect(deep(definition.FARTHEST + 5) == "end", True, "a deep recursion over numbers")
 
 
+def values_under_facts(_):
+    """Tests that a definition is evaluated again under other facts."""
+    text = "use Rattle.std.specs.Prelude.{ℕ, min}\n\nentry : ℕ → ℕ → ℕ\nentry a b = min a b\n"
+    n = variable("n")
+    with readers.Folder({("more", "More"): text}) as definitions:
+        entry = antt.Program(definitions, ["entry"]).run()["entry"]
+        for facts, expected in (([at_most(n, 5)], n), ([minus(n, 20)], 10), ([at_most(n, 9)], n)):
+            with given(*facts):
+                expect(is_same_number(entry(n, 10), expected), True, f"the smaller one of n and 10, given {facts}")
+
+
 def undeclared_names(_):
     """Tests that a block of a name without a type isn't read, and changes no definition."""
     text = "entry : ℕ → ℕ\nentry n = n + 3\n\nother n = n\n"
@@ -255,8 +285,8 @@ def names_of_modules(_):
 
 
 ALL = [
-    *(halves_of_products, numbers_in_high_bits, widths_of_results, parts_of_values, continued_coefficients),
-    *(complements, narrowed_values, masks, points_of_facts, moved_points, tested_points, stored_polynomials),
-    *(cells_around_runs, copies_to_buffers, symbolic_loads, bytes_beyond, assumed_functions, undeclared_names),
-    names_of_modules,
+    *(halves_of_products, numbers_in_high_bits, widths_of_results, products_of_powers, parts_of_values),
+    *(continued_coefficients, complements, flipped_sums, narrowed_values, masks, points_of_facts, moved_points),
+    *(tested_points, stored_polynomials, cells_around_runs, copies_to_buffers, symbolic_loads, bytes_beyond),
+    *(assumed_functions, values_under_facts, undeclared_names, names_of_modules),
 ]
