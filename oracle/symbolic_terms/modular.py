@@ -1,5 +1,6 @@
 """Operations and comparisons of words: numbers, polynomials or terms."""
 import contextlib
+import fractions
 
 from . import operations
 from .nodes import SUM, Node, Value
@@ -61,7 +62,7 @@ BINARY = {
                      lambda w, a, b: divided(a, 1 << amount(b))[0]),
     "udiv": operator(lambda w, a, b: a // b, no_terms, lambda w, a, b: divided(a, b)[0]),
     "urem": operator(lambda w, a, b: a % b, no_terms, lambda w, a, b: divided(a, b)[1]),
-    "sdiv": operator(lambda w, a, b: int(signed(a, w) / signed(b, w)), no_terms),
+    "sdiv": operator(lambda w, a, b: int(fractions.Fraction(signed(a, w), signed(b, w))), no_terms),
 }
 
 

@@ -115,7 +115,7 @@ def plus(*terms: int | Poly) -> Value:
 
 def with_constant(x, c):
     """Returns a polynomial plus a number."""
-    parts = dict(x.parts)
+    parts = dict(parts_of(x))
     c += parts.pop((), 0)
     if c:
         parts[()] = c

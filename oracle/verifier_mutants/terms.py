@@ -676,6 +676,8 @@ def operations_of_widths(_):
             ("sdiv", 8, 250, 2, 253),
             ("sdiv", 8, 6, 254, 253),
             ("sdiv", 8, 249, 2, 253),
+            ("sdiv", 64, (1 << 53) + 1, 1, (1 << 53) + 1),
+            ("sdiv", 64, (1 << 64) - (1 << 62) - 1, 3, (1 << 64) - ((1 << 62) + 1) // 3),
             ("xor", 8, 0xF0, 0xFF, 0x0F),
             ("or", 8, 3, 5, 7),
             ("and", 8, 3, 5, 1),
@@ -723,6 +725,8 @@ def operations_of_widths(_):
             refuses(lambda: symbolic_modular.BINARY[name](64, p, q), f"{p} {name} {q}")
         for p, q in ((a, 5), (a, 6), (a, x), (a, plus(a, 1))):
             refuses(lambda: symbolic_modular.low_bits(64, p, q), f"the low bits {q} of {p}")
+        for p, q in ((3, operations.add_at(64, (1, x), (1, 1))), (operations.add_at(64, (1, x), (1, 1)), 3)):
+            refuses(lambda: plus(p, q), f"{p} plus {q}, a term")
         expect(
             is_same_number(symbolic_modular.low_bits(64, plus(times(8, a), 3), 7), 3)
             and is_same_number(symbolic_modular.low_bits(64, 7, plus(times(8, a), 3)), 3),

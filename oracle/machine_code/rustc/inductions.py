@@ -25,7 +25,8 @@ def cases_of(algorithm: str, is_assembly: bool = False) -> list[Case]:
     """Returns the cases of every length. Those of XXH3 are split by whether the last stripe is whole, which rustc's
     checks of slices use, and those of XXH32 by whether the assembly source is called."""
     found = every_length.cases(algorithm)
-    if algorithm == "32" and is_assembly:
+    if algorithm == "32" and is_assembly:  # where rustc uses that a slice has at most 2 ^ 63 - 1 bytes
+        found = [case._replace(facts=[*case.facts, at_most(case.length, LONGEST_SLICE)]) for case in found]
         return split(found, by_call(variable(every_length.TURNS)))
     return split(found, by_last_stripe()) if ":" in algorithm else found
 

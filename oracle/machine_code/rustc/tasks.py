@@ -25,12 +25,8 @@ FEW = [0, 3, 7, 16, 33, 100, 129, 240, 241, 300]
 LONG = [1024, 1025, 3137]  # bytes: the edge of a block, and more than two blocks
 SOME_ALGORITHMS = [("3-64", "default", None), ("3-128", "secret", 136)]  # of long one-shots, without --all
 STREAMED = [3, 8, 17, 33, 70]
-SOME_CASES, SOME_OF_XXH3, SOME_UPDATES, SOME_OF_RAW = (
-    16,
-    32,
-    389,
-    7,
-)  # steps between cases of the inductions, without --all
+# Steps between cases of the inductions, without --all: odd, since the cases alternate between two or four paths.
+SOME_CASES, SOME_OF_XXH3, SOME_UPDATES, SOME_OF_RAW = 17, 21, 389, 7
 LONGER = range(301, 1101)  # with a secret; the inductions have each length of the other one-shots
 # The levels of each build: x86-64 has a choice of AVX2, and the assembly source of three instruction sets.
 OF_BUILD = {V1: (1, 2), V3: (2,), SCALAR_BUILD: (1,), ASSEMBLY: tuple(LEVELS)}
@@ -121,10 +117,11 @@ def induction_tasks(name, processors, first, is_all):
     for hash_name in every_length.UNROLLED:
         found, count = cases_of(hash_name, name == ASSEMBLY), len(list(any_updates.updates(hash_name)))
         cases = found[:: 1 if is_all else SOME_CASES]
-        levels = processors if name == ASSEMBLY and hash_name == "32" else first
+        is_called = name == ASSEMBLY and hash_name == "32"
+        levels = processors if is_called else first
         for level, make in levels.items():
             yield counted(
-                f"{name}, {level}: XXH{hash_name}: every length to 2^64 - 1",
+                f"{name}, {level}: XXH{hash_name}: every length to 2^{63 if is_called else 64} - 1",
                 len(cases),
                 functools.partial(shown, make, hash_name, cases),
             )
