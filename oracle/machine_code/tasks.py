@@ -32,7 +32,7 @@ COVERED = 90, 3000                                  # points tested for complete
 SOME_SECRETS = [*range(136, 144), *range(190, 202), 256, 257, 576, 999, 1000]
 ANY_SECRET = [f"{name}:{way}" for name in ("3-64", "3-128") for way in ("secret", "both")]
 MOST_NODES = 400_000                                # terms kept between the cases of a proof
-SOME_LENGTHS, SOME_OF_PLAIN = (5, 7), 10            # steps between cases of any secret, and of XXH32, without --all
+SOME_LENGTHS, SOME_OF_PLAIN = (5, 7), 9     # odd steps between cases of any secret, and of XXH32, without --all
 OF_LONG_SEEDS = 137,                                # bytes of secrets generated from 2^32 bytes and more
 FEWEST_FRAMED = 9000                                # minimum number of instructions of a source
 assert scalar and lanes                             # imported because they fill the table

@@ -23,7 +23,7 @@ WAYS = "default", "seed", "secret", "both"
 ALGORITHMS = ["32", "64", *(f"{name}:{way}" for name in ("3-64", "3-128") for way in WAYS)]
 SOME_ALGORITHMS = ["32", "64", "3-64:default", "3-128:seed", "3-64:both"]
 # Without --all: steps between the cases of inductions and the planted faults.
-SOME_CASES, SOME_UPDATES = {"32": 4, "64": 8, "default": 15, "seed": 15, "both": 30}, {"32": 67, "64": 499}
+SOME_CASES, SOME_UPDATES = {"32": 5, "64": 7, "default": 15, "seed": 15, "both": 31}, {"32": 67, "64": 499}
 SOME_ENDS, SOME_FAULTS = 8, 3
 PARTS = 4  # tasks into which the updates are split, with --all
 # Bytes of generated secrets, and of their custom seeds; without --all every 31st pair.
