@@ -1,6 +1,9 @@
 /* SPDX-License-Identifier: MIT */
 /* Memory for states, which the crate twox_c cannot pass to C: an export of it has no raw pointer. Everything else is
- * there, and proved. A state is aligned to 8 bytes, as malloc aligns it. */
+ * there, and proved. */
+#ifndef _ISOC11_SOURCE
+#define _ISOC11_SOURCE /* for aligned_alloc, also with -std=c99 */
+#endif
 #include <stdlib.h>
 #include "state_sizes.h" /* the sizes that twox_c proves its states to have */
 #include "xxhash.h"
@@ -19,9 +22,13 @@ XXH64_state_t *XXH64_createState(void)
     return state;
 }
 
+/* The alignment of the type in xxhash.h: compilers copy a state by moves that need it. */
+#define XXH3_ALIGNMENT 64
+_Static_assert(XXH3_STATE_BYTES % XXH3_ALIGNMENT == 0, "aligned_alloc needs a multiple of the alignment");
+
 XXH3_state_t *XXH3_createState(void)
 {
-    XXH3_state_t *state = malloc(XXH3_STATE_BYTES);
+    XXH3_state_t *state = aligned_alloc(XXH3_ALIGNMENT, XXH3_STATE_BYTES);
     if (state) XXH3_64bits_reset(state);
     return state;
 }

@@ -29,13 +29,13 @@ export class Hash extends Transform {
   }
 
   /**
-   * Returns the digest, the highest byte first: as text in an encoding such as "hex", or as a Buffer. Finalizes the
-   * hash.
+   * Returns the digest, the highest byte first: as text in an encoding such as "hex", or as a Buffer, also if Node has
+   * no such encoding. Finalizes the hash.
    */
   digest(encoding) {
     const bytes = this.#value ?? this.#end();
     this.#value = undefined;
-    return encoding === undefined || encoding === "buffer" ? bytes : bytes.toString(encoding);
+    return Buffer.isEncoding(encoding) ? bytes.toString(encoding) : bytes;
   }
 
   /** Returns a copy in the same state. */

@@ -66,7 +66,7 @@ def server(port: int, handler: type[http.server.SimpleHTTPRequestHandler] = Hand
 
 
 def main(args):
-    numbers = [word for word in args if word.isdigit()]
+    numbers = [word for word in args if word.isdecimal() and int(word) < 1 << 16]
     if [word for word in args if word not in numbers and word != "--open"] or len(numbers) > 1:
         sys.exit("usage: web/serve.py [PORT] [--open]")
     try:

@@ -1,6 +1,6 @@
 // SPDX-License-Identifier: MIT
 /** Streams and files by their hash: the web's own types of input for twox_hash.js. */
-import { Stream, updateAll } from "./twox_hash.js";
+import { Stream, TwoxHashError, updateAll } from "./twox_hash.js";
 
 const PIECE_BYTES = 8 * 1024 * 1024;
 const READS_AHEAD = 4;
@@ -43,7 +43,8 @@ export class HashingStream extends TransformStream {
  *     with the signal's reason
  * @returns {Promise<number | bigint>}
  */
-export async function hashBlob(kind, blob, { progress, signal, ...key } = {}) {
+export async function hashBlob(kind, blob, options = {}) {
+  const { progress, signal, ...key } = asOptions(options);
   const stream = new Stream(kind, key);
   try {
     await takeBlob([stream], blob, { progress, signal });
@@ -58,8 +59,10 @@ export async function hashBlob(kind, blob, { progress, signal, ...key } = {}) {
  * blob's size when it was chosen: if it is different now, it fails with a `NotReadableError`. `read` reads the
  * chunks of a blob that has several, for example on another thread; by default, this thread does.
  */
-export async function takeBlob(streams, blob, { progress, signal, size = blob.size, read = readHere } = {}) {
-  const all = [...streams]; // once, since an iterable may have them only once
+export async function takeBlob(streams, blob, options = {}) {
+  refuseUnlessBlob(blob);
+  const { progress, signal, size = blob.size, read = readHere } = asOptions(options);
+  const all = asStreams(streams);
   let done = 0;
   signal?.throwIfAborted();
   for await (const piece of piecesOf(blob, size, size > PIECE_BYTES ? read : readHere)) {
@@ -68,6 +71,23 @@ export async function takeBlob(streams, blob, { progress, signal, size = blob.si
     done += piece.byteLength;
     progress?.(done, size);
   }
+}
+
+function asOptions(options) {
+  if (options !== null && typeof options === "object") return options;
+  throw new TwoxHashError("options", "The options must be an object.");
+}
+
+function refuseUnlessBlob(blob) {
+  if (typeof blob?.slice === "function" && typeof blob.arrayBuffer === "function" && blob.size >= 0) return;
+  throw new TwoxHashError("input", "The input must be a Blob or a File.");
+}
+
+/** Returns the streams as an array: an iterable may have them only once. Refuses other objects and freed streams. */
+function asStreams(streams) {
+  const all = typeof streams?.[Symbol.iterator] === "function" ? [...streams] : streams;
+  updateAll(all, "");
+  return all;
 }
 
 /** The blob's bytes in chunks. The next ones are read while one is hashed. */

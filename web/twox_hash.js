@@ -105,7 +105,8 @@ export async function load(source = besideThisFile) {
   } catch (error) {
     loading = null;
     if (error instanceof TwoxHashError) throw error;
-    throw new TwoxHashError("load", `The WebAssembly module couldn't be loaded: ${error.message}`, { cause: error });
+    const reason = error?.message ?? String(error); // a source may throw anything
+    throw new TwoxHashError("load", `The WebAssembly module couldn't be loaded: ${reason}`, { cause: error });
   }
 }
 

@@ -9,21 +9,29 @@ export default async function xxhash() {
 }
 
 // There too a seed out of range is taken modulo 2^32 or 2^64.
-const h32 = (input, seed = 0) => xxh32(input, seed >>> 0);
-const h64 = (input, seed = 0n) => xxh64(input, BigInt.asUintN(64, seed));
+const seed32 = (seed = 0) => ofType("number", seed) >>> 0;
+const seed64 = (seed = 0n) => BigInt.asUintN(64, ofType("bigint", seed));
+
+const h32 = (input, seed) => xxh32(input, seed32(seed));
+const h64 = (input, seed) => xxh64(input, seed64(seed));
 
 const CALLS = Object.freeze({
   h32,
   h32Raw: h32,
   h32ToString: (input, seed) => toHex(h32(input, seed), "xxh32"),
-  create32: (seed = 0) => new Stream("xxh32", { seed: seed >>> 0 }),
+  create32: (seed) => new Stream("xxh32", { seed: seed32(seed) }),
   load32: (state) => goingOn(state, "xxh32"),
   h64,
   h64Raw: h64,
   h64ToString: (input, seed) => toHex(h64(input, seed), "xxh64"),
-  create64: (seed = 0n) => new Stream("xxh64", { seed: BigInt.asUintN(64, seed) }),
+  create64: (seed) => new Stream("xxh64", { seed: seed64(seed) }),
   load64: (state) => goingOn(state, "xxh64"),
 });
+
+function ofType(type, seed) {
+  if (typeof seed === type) return seed;
+  throw new TwoxHashError("seed", `The seed must be a ${type}. Received ${seed === null ? seed : typeof seed}.`);
+}
 
 function goingOn(state, kind) {
   const stream = Stream.load(state);

@@ -64,7 +64,7 @@ from c.checks import (
     without_rt,
 )
 from c.checks.file_program import file_program_agrees
-from c.checks.headers import EXAMPLE_C, by_cmake, cpp_by_cmake, package_path, static_by_pkg_config
+from c.checks.headers import EXAMPLE_C, by_cmake, cpp_by_cmake, package_path, static_by_pkg_config, versions_are_found
 from c.checks.library import Built, sets_here
 from c.checks.sides import THEIRS, Side, run
 from c.checks.values import calls_agree, calls_notice, calls_program, freed_states_are_refused, names_are_theirs
@@ -264,6 +264,7 @@ def check_library_examples(report, built, ours):
         'examples/cmake with the static library', lambda: example_agrees(ours, by_cmake(built)[1], dynamic=False)
     )
     report.attempt('examples/cpp', lambda: example_agrees(ours, cpp_by_cmake(built)))
+    report.attempt('requests for versions by CMake', versions_are_found, built)
     report.attempt('examples/python', example_agrees, ours, [clients.PYTHON, '-B', EXAMPLE_PYTHON, 'libxxhash.so.0'])
     report.attempt('an example that reads once', single_read_is_noticed, built, ours)
 

@@ -3,7 +3,7 @@ import os
 
 from c.checks.library import Built
 from checks.lib.report import Report, check
-from checks.lib.tools import TOP, must, ran
+from checks.lib.tools import TOP, must, ran, write
 
 DISPATCHED = (
     '#include <xxh_x86dispatch.h>\n' 'int main(void) { return XXH3_64bits_dispatch("", 0) != XXH3_64bits("", 0); }\n'
@@ -71,6 +71,43 @@ def by_cmake(built: Built) -> tuple[list[str], list[str]]:
     path = os.path.join(folder, 'hash-file-static')
     check(holds(built, path), "it holds another library's code")
     return [os.path.join(folder, 'hash-file')], [path]
+
+
+# Versions and ranges that a program may request.
+REQUESTS = (
+    *('', '0.7', '0.8', '0.8.1', '0.8.2', '1', '0.8.0 EXACT', '0.8.1 EXACT'),
+    *('0.7...0.8', '0.7...0.8.1', '0.7...<0.8.1', '0.8.1...0.8.1', '0.8.0...<0.8.2', '0.8...1', '0.8.2...1'),
+)
+# A project that writes a line for each request: whether it found the package.
+REQUESTING = """cmake_minimum_required(VERSION 3.19)
+project(requests NONE)
+include(CMakePackageConfigHelpers)
+write_basic_package_version_file(
+  ${CMAKE_BINARY_DIR}/theirs/xxHashConfigVersion.cmake VERSION 0.8.1 COMPATIBILITY AnyNewerVersion ARCH_INDEPENDENT)
+file(WRITE ${CMAKE_BINARY_DIR}/theirs/xxHashConfig.cmake "")
+foreach(request IN LISTS REQUESTS)
+  foreach(place ${CMAKE_BINARY_DIR}/theirs ${OURS})
+    unset(xxHash_DIR CACHE)
+    separate_arguments(words UNIX_COMMAND "${request}")
+    find_package(xxHash ${words} QUIET CONFIG PATHS ${place} NO_DEFAULT_PATH)
+    message(STATUS "'${request}': ${xxHash_FOUND}")
+  endforeach()
+endforeach()
+"""
+
+
+def versions_are_found(built: Built) -> str:
+    """find_package finds the package for the same requests as a package 0.8.1 with the file that CMake generates."""
+    folder = os.path.join(built.workdir, 'requests')
+    os.makedirs(folder, exist_ok=True)
+    write(os.path.join(folder, 'CMakeLists.txt'), REQUESTING)
+    ours = os.path.join(built.prefix, 'lib', 'cmake', 'xxHash')
+    command = ['cmake', '-S', folder, '-B', f'{folder}/build', f'-DREQUESTS={";".join(REQUESTS)}', f'-DOURS={ours}']
+    lines = [line for line in must(command).splitlines() if line.startswith("-- '")]
+    check(len(lines) == 2 * len(REQUESTS) and len(set(lines)) > len(REQUESTS) // 2, '\n'.join(lines))
+    wrong = [line for expected, line in zip(lines[::2], lines[1::2]) if line != expected]
+    check(not wrong, ', '.join(wrong))
+    return f'{len(REQUESTS)} requests'
 
 
 def cpp_by_cmake(built: Built) -> list[str]:

@@ -13,6 +13,7 @@ HEADER = '/usr/include/xxhash.h'
 # Faults of the C around the proved code, each of which own_states_3 must detect: a file, its text, and another one. An
 # address that is passed without its mark changes no value, since the proved call tests the mark too.
 FAULTS = (
+    ('states.c', 'aligned_alloc(XXH3_ALIGNMENT, XXH3_STATE_BYTES)', 'malloc(XXH3_STATE_BYTES)'),
     ('streams.c', 'state->mark == MARK_ADDRESS ||', ''),
     ('streams.c', '|| state->mark == MARK_ADDRESS_AND_SEED', ''),
     ('streams.c', '#define MARK_ADDRESS 0x9', '#define MARK_ADDRESS 0x8'),

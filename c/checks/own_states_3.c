@@ -25,7 +25,8 @@ _Static_assert(sizeof(XXH3_state_t) == BYTES && _Alignof(XXH3_state_t) == 64, "X
     X(XXH3_128bits_withSeed) X(XXH3_128bits_withSecret) X(XXH3_128bits_withSecretandSeed) \
     X(XXH3_64bits_reset) X(XXH3_128bits_reset_withSeed) X(XXH3_64bits_reset_withSecret) \
     X(XXH3_128bits_reset_withSecret) X(XXH3_128bits_reset_withSecretandSeed) X(XXH3_64bits_reset_withSecretandSeed) \
-    X(XXH3_64bits_update) X(XXH3_128bits_update) X(XXH3_64bits_digest) X(XXH3_128bits_digest) X(XXH3_copyState)
+    X(XXH3_64bits_update) X(XXH3_128bits_update) X(XXH3_64bits_digest) X(XXH3_128bits_digest) X(XXH3_copyState) \
+    X(XXH3_createState) X(XXH3_freeState)
 #define MEMBER(name) __typeof__(&name) name;
 struct library {
     EACH(MEMBER)
@@ -257,6 +258,18 @@ static void initialized_states(void *state)
     }
 }
 
+/* A created state has the alignment of its type, on which compilers rely when a program copies it. */
+static void created_states(const struct library *library)
+{
+    for (size_t i = 0; i < 100; i++) {
+        void *before = malloc(16 * i + 8);
+        XXH3_state_t *state = library->XXH3_createState();
+        check(before && state && !((uintptr_t)state % _Alignof(XXH3_state_t)), "the alignment of a created state", i);
+        library->XXH3_freeState(state);
+        free(before);
+    }
+}
+
 int main(int count, char **argv)
 {
     if (count != 3) {
@@ -275,6 +288,8 @@ int main(int count, char **argv)
     refused_resets(state);
     changed_secrets(state);
     initialized_states(state);
+    created_states(&reference);
+    created_states(&ours);
     printf("%ld compared, %ld differ\n", compared, bad);
     return bad != 0;
 }

@@ -250,6 +250,20 @@ def is_taken_away(copy, workdir):
     return f'{len(put)} files'
 
 
+def sources_take_turns(copy, workdir):
+    """A library from C replaces those in the loader's folders, which the loader would prefer, in a build and where it
+    is installed. uninstall removes them from whichever source."""
+    root, args = os.path.join(workdir, 'turns'), ['out=out/turns', 'PREFIX=/opt', f'DESTDIR={workdir}/turns']
+    folders = (os.path.join(copy, 'c/out/turns/lib/glibc-hwcaps'), os.path.join(root, 'opt/lib/glibc-hwcaps'))
+    for source, count in ([], 2), (['SOURCE=1'], 0), ([], 2):
+        make(copy, *args, *source, 'check-values', 'install')
+        left = [len(files_below(folder)) for folder in folders]
+        check(left == [count, count], f'{source}: {left} libraries for better processors')
+    make(copy, *args, 'SOURCE=1', 'uninstall')
+    check(not files_below(root), f'uninstall leaves {files_below(root)}')
+    return 'proved, from C, proved'
+
+
 def other_library_stays(copy, workdir):
     """uninstall removes nothing if the header is another library's."""
     include = os.path.join(workdir, 'theirs/opt/include')
@@ -284,6 +298,7 @@ def check_makefile(report, copy, workdir):
     )
     report.attempt('folders of one name', folders_stay_apart, copy)
     report.attempt('install and uninstall', is_taken_away, copy, workdir)
+    report.attempt('the proved library and one from C, in turns', sources_take_turns, copy, workdir)
     for wrong in WRONG_TEXTS:
         report.attempt(f'a wrong text of {wrong[0]} is noticed', wrong_text_is_noticed, copy, *wrong)
     for what, args in OTHER_TEXTS.items():

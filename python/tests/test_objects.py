@@ -221,7 +221,8 @@ class Forged(unittest.TestCase):
                 algorithm().state().replace('total_len', 'length'),
                 algorithm().state().replace('[', '[256,', 1),
                 algorithm().state().replace('0', '1' * 5000, 1),
-                algorithm().state().replace('seed', 'Seed').replace('stripes', 'Stripes'),
+                algorithm().state().replace('seed', 'Seed'),
+                algorithm().state().replace('buffer', 'Buffer'),
             ):
                 self.refused(algorithm, text, message)
             for other in (None, 5, [], algorithm()):

@@ -81,6 +81,7 @@ def check_all(checks, chosen):
             module_checks.check_in_node(checks, folder, nodes)
             module_checks.check_in_jsc(checks)
             checks.attempt("serve.py serves the page, and no more", page_checks.served_and_no_more, folder)
+            checks.attempt("serve.py refuses what is no port", page_checks.wrong_ports_are_refused)
             module_checks.check_package(checks, folder, nodes)
         for browser_class in (Chromium, Firefox, WebKit):
             check_in_browser(checks, browser_class, folder, chosen)

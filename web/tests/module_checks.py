@@ -140,6 +140,24 @@ def refused_in_node(folder, node):
     check(result.startswith("false TwoxHashError unsupported WebAssembly is not available"), result)
 
 
+def failed_sources_are_refused(folder, node):
+    """A source that fails with anything is an error with its reason, and a later call loads the module."""
+    script = write(
+        folder,
+        "failed.mjs",
+        f"""const {{ load, toHex, xxh64 }} = await import("file://{WEB}/node.js");
+        for (const reason of [undefined, null, "offline", new Error("offline"), Symbol("offline"), {{}}]) {{
+            const call = load(() => Promise.reject(reason));
+            await call.catch((error) => console.log(error.name, error.code, error.cause === reason, error.message));
+        }}
+        {SAMPLE}""",
+    )
+    *lines, value = must([node, script], folder).splitlines()
+    begin = "TwoxHashError load true The WebAssembly module couldn't be loaded: "
+    reasons = ["undefined", "null", "offline", "offline", "Symbol(offline)", "[object Object]"]
+    check(lines == [begin + reason for reason in reasons] and value == "eab55659a496d78b", "\n".join(lines))
+
+
 def packed(folder):
     """Installs the package there, as npm packs it, and nothing else."""
     must(["npm", "pack", "--pack-destination", folder], WEB)
@@ -424,6 +442,7 @@ def check_in_node(checks: Report, folder: str, nodes: Iterable[str]) -> None:
     checks.attempt("Node where WebAssembly has no vectors", tests_of_tree, folder, nodes[0], WITHOUT_VECTORS, False)
     checks.attempt("Node: a module with a wrong bit is noticed", wrong_module_is_noticed, folder, nodes[0])
     checks.attempt("Node without WebAssembly is told so", refused_in_node, folder, nodes[0])
+    checks.attempt("Node: a source that fails is refused", failed_sources_are_refused, folder, nodes[0])
 
 
 def check_package(checks: Report, folder: str, nodes: Iterable[str]) -> None:

@@ -43,7 +43,9 @@ const CASES = {
     createReadStream(file).pipe(make()).setEncoding("hex").pipe(end);
     return (await end.toArray()).join("");
   },
-  "update and digest": (make) => [undefined, "hex", "base64", "base64url", "latin1", "binary", "buffer"].map((encoding) => {
+  "update and digest": (make) => [
+    undefined, "hex", "HEX", "base64", "base64url", "latin1", "binary", "buffer", "no encoding", "", null,
+  ].map((encoding) => {
     const digest = make().update(TEXT).digest(encoding);
     return Buffer.isBuffer(digest) ? ["bytes", digest.toString("hex")] : Buffer.from(digest, encoding).toString("hex");
   }),

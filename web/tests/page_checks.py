@@ -4,6 +4,7 @@ import http.client
 import http.server
 import os
 import subprocess
+import sys
 import tempfile
 from typing import Any
 import threading
@@ -475,6 +476,13 @@ def served_and_no_more(folder: str) -> None:
     finally:
         serve.TOP = before
     check(not wrong, str(wrong))
+
+
+def wrong_ports_are_refused() -> None:
+    """serve.py prints its usage for what is no port."""
+    for args in (["65536"], ["99999"], ["\N{SUPERSCRIPT TWO}"], ["-1"], ["port"], ["8000", "8001"]):
+        done = subprocess.run([sys.executable, serve.__file__, *args], capture_output=True, text=True, timeout=60)
+        check(done.returncode == 1 and done.stderr.startswith("usage: web/serve.py "), f"{args}: {done.stderr[-80:]}")
 
 
 def status_of(address, name):

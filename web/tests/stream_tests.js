@@ -61,6 +61,19 @@ const TESTS = {
     const codes = await Promise.all(refused.map(async ([, kind, options]) => (await errorOf(streams.hashBlob(kind, new Blob([]), options))).code));
     return { ok: codes.every((code, i) => code === refused[i][0]), message: codes.join(" ") };
   },
+  "other inputs than blobs are refused": async () => {
+    const others = ["text", new Uint8Array(5), new ArrayBuffer(5), new Set(), { size: 0 }, [], 7, null, undefined];
+    const freed = new twox.Stream("xxh64");
+    freed.free();
+    const calls = [
+      ...others.flatMap((it) => [["input", streams.hashBlob("xxh64", it)], ["input", streams.takeBlob([], it)]]),
+      ...[7, null, "text"].map((it) => ["options", streams.hashBlob("xxh64", new Blob([]), it)]),
+      ...[7, null, [7]].map((it) => ["input", streams.takeBlob(it, new Blob([]))]),
+      ["freed", streams.takeBlob([freed], new Blob([]))],
+    ];
+    const codes = await Promise.all(calls.map(async ([, promise]) => (await errorOf(promise)).code));
+    return { ok: codes.every((code, i) => code === calls[i][0]), message: codes.join(" ") };
+  },
   "a blob in many pieces, for streams that are listed once": async () => {
     const part = many();
     const blob = new Blob(Array.from({ length: 20 }, () => part));

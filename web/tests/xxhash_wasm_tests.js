@@ -15,6 +15,30 @@ function isRight(calls, vector) {
   return types && values.every((value) => BigInt(value) === vector.answer) && digits(input, seed) === vector.digits;
 }
 
+/** The name and the code of the error of a call. */
+function errorOf(call) {
+  try {
+    call();
+    return "no error";
+  } catch ({ name, code }) {
+    return `${name} ${code}`;
+  }
+}
+
+/** The errors of calls with wrong arguments, and the expected ones. */
+function refusalsOf(calls) {
+  const withSeed = (bits, seed) => [
+    ...["", "Raw", "ToString"].map((end) => () => calls[`h${bits}${end}`]("text", seed)),
+    () => calls[`create${bits}`](seed),
+  ];
+  const seeds = (bits, other) => [null, "7", {}, true, Symbol("seed"), other].flatMap((seed) => withSeed(bits, seed));
+  return [
+    ["seed", [...seeds(32, 7n), ...seeds(64, 7)]],
+    ["input", [() => calls.h32(7), () => calls.h64(), () => calls.h64ToString({}), () => calls.create32().update(7)]],
+    ["state", [() => calls.load32(), () => calls.load64(calls.create32().save())]],
+  ].flatMap(([code, refused]) => refused.map((call) => [errorOf(call), `TwoxHashError ${code}`]));
+}
+
 function timeOf(call) {
   const start = milliseconds();
   call();
@@ -36,7 +60,13 @@ export async function runXxhashWasmTests(xxhash, table) {
   const times = Array.from({ length: 4 }, () => timeOf(() => {
     for (let i = 0; i < 100_000; i += 1) calls.create64().update(bytes).digest();
   }));
+  const notRefused = refusalsOf(calls).filter(([error, expected]) => error !== expected).map(([error]) => error);
   return [
+    {
+      name: "xxhash-wasm's names: wrong arguments are refused",
+      ok: notRefused.length === 0,
+      message: notRefused.join(", "),
+    },
     { name: "xxhash-wasm's names: 400,000 streams, which nothing frees, take level time", ok: times[3] < 10 * Math.min(...times), message: `${times.join(", ")} ms` },
     { name: "xxhash-wasm's names: vectors of the reference library", ok: vectors.length > 100 && wrong.length === 0, message: wrong[0]?.line ?? `${vectors.length} vectors` },
     { name: "xxhash-wasm's names: text, seeds and digits", ok: known.every(Boolean), message: known.join(" ") },

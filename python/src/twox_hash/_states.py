@@ -156,8 +156,9 @@ class _Stream:
         last = _numbers(record.get('last_stripe'), self.stripe, self.stripe)
         secret = bytes(_numbers(record.get('secret'), 136, 256))
         place, stripes, total = (_number(record.get(name)) for name in ('place', 'stripes', 'total_len'))
-        seed = record.get('seed')
-        key = {} if seed is None else {'seed': _number(seed)}
+        if 'seed' not in record:
+            raise _not_a_state()
+        key = {} if record['seed'] is None else {'seed': _number(record['seed'])}
         hasher = algorithm(secret=secret, **key)
         if total != min(64 * stripes + len(buffer), WORD - 1) or stripes and not buffer:
             raise ValueError(USAGE)
