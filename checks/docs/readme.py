@@ -273,10 +273,10 @@ def table_of_runs():
 
 def runs_that_differ():
     """docs/VERIFICATION.md has the runs of the verifier as oracle/runs.tsv records them, and README.md the ends of
-    those without options."""
+    those that it names."""
     if table_of_runs() not in text_of('docs/VERIFICATION.md'):
         yield f'docs/VERIFICATION.md does not have the table of oracle/runs.tsv:{table_of_runs()}'
-    ends = dict(re.findall(r'^- `oracle/([\w-]+)`.*`(\d+ passed, 0 failed)`$', text_of('README.md'), re.M))
+    ends = dict(re.findall(r'^- `oracle/([\w -]+)`.*`(\d+ passed, 0 failed)`$', text_of('README.md'), re.M))
     recorded = {it.command: it.end for it in runs_of_verifier() if it.command in ends}
     if ends != recorded:
         yield f'README.md has {ends}, and oracle/runs.tsv {recorded}'
