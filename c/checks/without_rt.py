@@ -255,7 +255,8 @@ def sources_take_turns(copy, workdir):
     is installed. uninstall removes them from whichever source."""
     root, args = os.path.join(workdir, 'turns'), ['out=out/turns', 'PREFIX=/opt', f'DESTDIR={workdir}/turns']
     folders = (os.path.join(copy, 'c/out/turns/lib/glibc-hwcaps'), os.path.join(root, 'opt/lib/glibc-hwcaps'))
-    for source, count in ([], 2), (['SOURCE=1'], 0), ([], 2):
+    turns: list[tuple[list[str], int]] = [([], 2), (['SOURCE=1'], 0), ([], 2)]
+    for source, count in turns:
         make(copy, *args, *source, 'check-values', 'install')
         left = [len(files_below(folder)) for folder in folders]
         check(left == [count, count], f'{source}: {left} libraries for better processors')

@@ -48,7 +48,7 @@ def expect_bytes(program: Any) -> None:
         raise Unsupported(f"{bad[0]}, which aren't its own")
 
 
-def assembled_alone(texts, arch):
+def assembled_alone(texts: list[str] | set[str], arch: str) -> dict[tuple[str, str], bytes]:
     """Maps (text, arch) of each instruction to its bytes, padded to SLOT bytes. Assembles a text once."""
     texts = [text for text in sorted(texts) if (text, arch) not in assembled]
     with tempfile.TemporaryDirectory(prefix="machine-text-") as workdir:
