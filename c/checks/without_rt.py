@@ -234,7 +234,7 @@ def files_below(folder):
 
 def is_taken_away(copy, workdir):
     """uninstall removes exactly what install creates. install prints where that is, and which programs load it."""
-    root = os.path.join(workdir, 'destination')
+    root = os.path.join(workdir, "a user's destination, 1")
     place = os.path.join(root, 'opt/twox_hash')
     output = make(copy, 'install', 'PREFIX=/opt/twox_hash', f'DESTDIR={root}')
     check(f'{place}/lib and include: no program runs on it unless' in output, f'install says {last_line(output)}')
