@@ -45,9 +45,10 @@ impl Write for Hashers {
 }
 
 fn main() -> io::Result<()> {
-    let path = env::args_os()
-        .nth(1)
-        .ok_or_else(|| io::Error::other("usage: hash-file FILE"))?;
+    let mut paths = env::args_os().skip(1);
+    let (Some(path), None) = (paths.next(), paths.next()) else {
+        return Err(io::Error::other("usage: hash-file FILE"));
+    };
     let mut file = File::open(path)?;
     let mut hashers = Hashers::default();
     io::copy(&mut file, &mut hashers)?;
