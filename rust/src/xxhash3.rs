@@ -296,6 +296,13 @@ macro_rules! xxh3_hashers {
             }
         }
 
+        #[cfg(not(feature = "alloc"))]
+        impl Clone for Hasher {
+            fn clone(&self) -> Self {
+                Self(())
+            }
+        }
+
         #[cfg(feature = "alloc")]
         impl Default for Hasher {
             #[inline]

@@ -55,3 +55,19 @@ fn xxhash3_128_has_the_value_of_the_reference() {
     let value = twox_hash::XxHash3_128::oneshot_with_seed(SEED.into(), &input());
     assert_eq!(value, 0xa77b_8dbd_2338_3ab6_1a9b_b611_4520_9c40);
 }
+
+/// Tests, when it is compiled, that each hasher can be cloned, also the XXH3 ones without `alloc`.
+#[test]
+fn hashers_are_clone() {
+    fn cloned<T: Clone>(hasher: &T) -> T {
+        hasher.clone()
+    }
+    #[cfg(feature = "xxhash32")]
+    let _ = cloned::<twox_hash::XxHash32>;
+    #[cfg(feature = "xxhash64")]
+    let _ = cloned::<twox_hash::XxHash64>;
+    #[cfg(feature = "xxhash3_64")]
+    let _ = cloned::<twox_hash::XxHash3_64>;
+    #[cfg(feature = "xxhash3_128")]
+    let _ = cloned::<twox_hash::XxHash3_128>;
+}
