@@ -331,10 +331,10 @@ def by_cmake(source, prefix):
 def has_no_warning(source, compiler):
     """The object and inlined code, in each form and standard, without a warning."""
     language = 'c++' if compiler.endswith('++') else 'c'
-    inlined = text_of(VALUES)
+    inlined, warnings = text_of(VALUES), [*WARNINGS, *(['-Wc++-compat'] if language == 'c' else [])]
     for number, standard in enumerate(STANDARDS[compiler]):
         for flags in [[], *FORMS.values()][: 1 if number else None]:
-            source.object(compiler, text_of(SOURCE), f'-std={standard}', '-O2', *flags, *WARNINGS, language=language)
+            source.object(compiler, text_of(SOURCE), f'-std={standard}', '-O2', *flags, *warnings, language=language)
     for flags in FORMS.values():
         source.object(
             compiler, inlined, f'-std={standard}', '-O3', *flags, '-Wall', '-Wextra', '-Werror', language=language

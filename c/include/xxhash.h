@@ -1073,11 +1073,13 @@ typedef __m256i xxh3_vector;
 #define XXH3_VECTORS 2
 #define XXH3_ON_WORDS(operation) _mm256_##operation
 #define XXH3_ON_BITS(operation) _mm256_##operation##_si256
+#define XXH3_XOR _mm256_xor_si256
 #else
 typedef __m128i xxh3_vector;
 #define XXH3_VECTORS 4
 #define XXH3_ON_WORDS(operation) _mm_##operation
 #define XXH3_ON_BITS(operation) _mm_##operation##_si128
+#define XXH3_XOR _mm_xor_si128
 #endif
 
 XXH_FORCE_INLINE xxh3_vector xxh3_load(const void *at) { return XXH3_ON_BITS(loadu)((const xxh3_vector *)at); }
@@ -1085,7 +1087,7 @@ XXH_FORCE_INLINE void xxh3_store(void *at, xxh3_vector vector) { XXH3_ON_BITS(st
 
 XXH_FORCE_INLINE xxh3_vector xxh3_accumulate_vector(xxh3_vector accumulators, xxh3_vector lanes, xxh3_vector key)
 {
-    xxh3_vector keyed = XXH3_ON_BITS(xor)(lanes, key);
+    xxh3_vector keyed = XXH3_XOR(lanes, key);
     xxh3_vector product = XXH3_ON_WORDS(mul_epu32)(keyed, XXH3_ON_WORDS(srli_epi64)(keyed, 32));
     xxh3_vector swapped = XXH3_ON_WORDS(shuffle_epi32)(lanes, 0x4E);
     return XXH3_ON_WORDS(add_epi64)(product, XXH3_ON_WORDS(add_epi64)(accumulators, swapped));
@@ -1095,7 +1097,7 @@ XXH_FORCE_INLINE xxh3_vector xxh3_scramble_vector(xxh3_vector accumulators, xxh3
 {
     const xxh3_vector prime = XXH3_ON_WORDS(set1_epi32)((int)XXH32_PRIME1);
     xxh3_vector shifted = XXH3_ON_WORDS(srli_epi64)(accumulators, 47);
-    xxh3_vector keyed = XXH3_ON_BITS(xor)(XXH3_ON_BITS(xor)(accumulators, shifted), key);
+    xxh3_vector keyed = XXH3_XOR(XXH3_XOR(accumulators, shifted), key);
     xxh3_vector high = XXH3_ON_WORDS(mul_epu32)(XXH3_ON_WORDS(srli_epi64)(keyed, 32), prime);
     return XXH3_ON_WORDS(add_epi64)(XXH3_ON_WORDS(mul_epu32)(keyed, prime), XXH3_ON_WORDS(slli_epi64)(high, 32));
 }

@@ -76,6 +76,7 @@ FEATURES = [
     '',
     *HASHES,
     'xxhash32,xxhash64',
+    'xxhash64,std',
     'xxhash3_64,xxhash3_128,alloc',
     'xxhash3_64,std',
     ','.join(HASHES) + ',serialize',

@@ -89,6 +89,7 @@ impl<A> BoxedSlice<u8, A> {
     }
 
     /// Returns the box.
+    #[cfg(any(feature = "xxhash3_64", feature = "xxhash3_128"))]
     pub fn into_box(self) -> Box<[u8]> {
         self.items
     }
