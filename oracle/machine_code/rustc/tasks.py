@@ -5,7 +5,7 @@ import itertools
 import re
 import tempfile
 
-from oracle.symbolic_terms import comparison, cuts, processes
+from oracle.symbolic_terms import comparison, cuts, processes, variable
 from oracle.symbolic_terms.comparison import title_of
 
 from .. import any_updates, every_length, on_processor, xxh3_updates
@@ -15,7 +15,7 @@ from ..processor import Processor
 from ..tasks import SOME_SHORT, UPDATE_PARTS, any_streams, compared, count_shown, counted, of_each
 from . import choice, names, planted, uses, xxh3_streams
 from .compilers import ASSEMBLY, SCALAR_BUILD, Compiler
-from .inductions import RustUpdates, cases_of, of_any_secret
+from .inductions import RustUpdates, by_call, by_last_stripe, cases_of, has_facts, of_any_secret
 from .objects import LEVELS, OWN, known_where_reached
 
 SECRETS = (136, 192)
@@ -41,6 +41,7 @@ def choose(given: argparse.Namespace, compilers: list[Compiler]) -> list[process
     out = [
         counted("the program uses each public name", FEWEST_NAMES, names.left_out),
         counted("a public function without a use is refused", 1, new_name_is_missing),
+        counted("samples of every length have each path", 3, samples_have_each_path),
     ]
     if compilers[0].name == V1:
         out.append(
@@ -56,6 +57,20 @@ def choose(given: argparse.Namespace, compilers: list[Compiler]) -> list[process
         out += called_tasks(compiler.name, make, program, processors, given.all)
     out += fault_tasks(given, compilers)
     return processes.chosen(out, given)
+
+
+def samples_have_each_path():
+    """Without --all, the cases must include calls of the assembly source and none, and whole last stripes and others."""
+    asked = [
+        ("32", cases_of("32", True)[::SOME_CASES], by_call(variable(every_length.TURNS))),
+        *((f"3-{width}", cases_of(f"3-{width}:seed")[::SOME_OF_XXH3], by_last_stripe()) for width in (64, 128)),
+    ]
+    bad = [f"XXH{name}: no case of {way}" for name, cases, ways in asked for way in ways if not drawn(cases, way)]
+    return len(asked), bad
+
+
+def drawn(cases, way):
+    return any(has_facts(case, way) for case in cases)
 
 
 class ProcessorOfForms(Processor):
