@@ -19,7 +19,7 @@ NOPS = {bytes.fromhex(x) for x in (
     "660f1f840000000000", "662e0f1f840000000000", "66662e0f1f840000000000", "6666662e0f1f840000000000",
     "666666662e0f1f840000000000", "66666666662e0f1f840000000000", "6666666666662e0f1f840000000000")}
 CONDITIONS = {f"j{name}": k for k, name in enumerate("o no b ae e ne be a s ns p np l ge le g".split())}
-assembled = {}
+assembled: dict[tuple[str, str], bytes] = {}
 ARM_CONDITIONS = {name: k for k, name in enumerate("eq ne cs cc mi pl vs vc hi ls ge lt gt le".split())}
 
 
@@ -60,8 +60,8 @@ def assembled_alone(texts: list[str] | set[str], arch: str) -> dict[tuple[str, s
         if done.returncode:
             raise Unsupported(f"what was printed isn't assembled: {done.stderr.splitlines()[1:2]}")
         object_ = Object(built)
-    built = next(object_.body(head) for head in object_.heads if head.name == ".text")
-    slots = (built[k:k + SLOT] for k in range(0, len(built), SLOT))
+    code = next(object_.body(head) for head in object_.heads if head.name == ".text")
+    slots = (code[k:k + SLOT] for k in range(0, len(code), SLOT))
     assembled.update({(text, arch): slot for text, slot in zip(texts, slots, strict=True)})
     return assembled
 

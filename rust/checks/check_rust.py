@@ -477,7 +477,8 @@ def example_agrees(workspace):
         for reads, environment in (('whole', None), ('short', preloaded)):
             out = printed([program, path], b'', environment) + '\n'
             check(out == four_hashes(path), f'{reads} reads of {length} bytes')
-    for names in ([], [path, path]):
+    wrong: list[list[str]] = [[], [path, path]]
+    for names in wrong:
         done = ran([program, *names])
         check(done.returncode == 1 and 'usage: hash-file FILE' in done.stdout, f'{len(names)} names: {done.stdout}')
     return 'the four hashes of xxhsum, of four files, also by short reads'
