@@ -1,5 +1,5 @@
 """The cases of the inductions over rustc's object: those of the assembly source, of which some are split in two."""
-from oracle.symbolic_terms import at_most, is_same_number, minus, plus, times, variable
+from oracle.symbolic_terms import Value, at_most, is_same_number, minus, plus, times, variable
 
 from .. import any_updates, every_length
 from ..every_length import Case
@@ -31,12 +31,12 @@ def cases_of(algorithm: str, is_assembly: bool = False) -> list[Case]:
     return split(found, by_last_stripe()) if ":" in algorithm else found
 
 
-def by_call(turns):
+def by_call(turns: Value) -> list[list[Value]]:
     """Returns facts of the turns of the unrolled loop with which XXH32 doesn't call the assembly source, or does."""
     return [[at_most(turns, CALLED // IN_TURN - 1)], [minus(turns, CALLED // IN_TURN)]]
 
 
-def by_last_stripe():
+def by_last_stripe() -> list[list[Value]]:
     return [[at_most(variable("t"), 62)], [minus(variable("t"), 63)]]
 
 
@@ -55,5 +55,5 @@ def split(found, ways):
     ]
 
 
-def has_facts(case, facts):
+def has_facts(case: Case, facts: list[Value]) -> bool:
     return all(any(is_same_number(fact, known) for known in case.facts) for fact in facts)

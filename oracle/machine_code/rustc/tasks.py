@@ -60,16 +60,17 @@ def choose(given: argparse.Namespace, compilers: list[Compiler]) -> list[process
 
 
 def samples_have_each_path():
-    """Without --all, the cases must include calls of the assembly source and none, and whole last stripes and others."""
+    """Without --all, the cases must include those with a call of the assembly source, those with a whole last stripe,
+    and the others."""
     asked = [
         ("32", cases_of("32", True)[::SOME_CASES], by_call(variable(every_length.TURNS))),
         *((f"3-{width}", cases_of(f"3-{width}:seed")[::SOME_OF_XXH3], by_last_stripe()) for width in (64, 128)),
     ]
-    bad = [f"XXH{name}: no case of {way}" for name, cases, ways in asked for way in ways if not drawn(cases, way)]
+    bad = [f"XXH{name}: no case of {way}" for name, cases, ways in asked for way in ways if not includes(cases, way)]
     return len(asked), bad
 
 
-def drawn(cases, way):
+def includes(cases, way):
     return any(has_facts(case, way) for case in cases)
 
 
