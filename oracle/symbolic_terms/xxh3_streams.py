@@ -177,8 +177,10 @@ class Xxh3Streams(Proof):
             self.texts = definition.program().run(traced=suppositions)
 
     def update_by_ends(self, start, end, runs, facts, blocks=None):
-        """Proves an update that overwrites bytes of the last stripe in the buffer, or none: both cases."""
-        for of_end, end_runs in self.ends(*end):
+        """Proves an update that overwrites bytes of the last stripe in the buffer, or none: the cases that can be."""
+        with given(*self.facts, *facts):
+            ends = list(self.ends(*end))
+        for of_end, end_runs in ends:
             self.update(start, end, runs, [([], end_runs)], [*facts, *of_end], blocks)
 
     def expect_some_stripes(self, start, end):
