@@ -276,7 +276,6 @@ def options():
         '-t',
         '-v',
         '-Q',
-        '-C',
         '-q-',
         '-q,',
         '-c=1',
@@ -1158,6 +1157,7 @@ def small_stacks():
         'a list': ('-c good', GOOD_OUT),
         'names': ('--files-from named', GOOD),
         'a folder': ('-r d', X64 + b'  d/inner\n'),
+        'a folder below another': ('-rC . d', X64 + b'  d/inner\n'),
         'an audit': ('--audit good a', audited(b'a: same')['out']),
         'an audit as JSON': ('--audit --format=json good a', json_object('same', b'a', b'', X64, X64)),
         'an audit of a folder': ('-r --audit inner d', audited(b'd/inner: same')['out']),
@@ -1211,6 +1211,47 @@ def excluded(tree):
         Case('--exclude without a pattern', ('-r', '--exclude'), expected=fails([wrong])),
         Case('--exclude of a path', ('-r', '--exclude', 'd/inner', 'd'), expected=slash),
         Case('--exclude= of a path', ('--exclude=/', '-r', 'd'), expected=slash),
+    ]
+
+
+def directories():
+    """Runs with names that are relative to a directory."""
+    inner = X64 + b'  inner\n'
+    found = {
+        'a file': ('-C d inner', inner),
+        'a file, in one word': ('--directory=d/ ./inner', X64 + b'  ./inner\n'),
+        'a file, behind letters': ('-zqC d inner', X64 + b'  inner\0'),
+        'a link': ('-C linked-folder inner', inner),
+        'an absolute name': ('-C d "$PWD/a" | sed "s#$PWD##"', X64 + b'  /a\n'),
+        'standard input': ('-C gone - <a', X64 + b'  stdin\n'),
+        'a list': ('-C d inner >d/list; "$X" -cC d list', b'inner: OK\n'),
+        'a list on standard input': ('-C d inner | "$X" -cC d', b'inner: OK\n'),
+        'a folder': ('-rC . d', X64 + b'  d/inner\n'),
+        'a folder, excluding': ('-rC d --exclude=n* .', X64 + b'  ./inner\n'),
+        'an audit': ('-C d inner >d/list; "$X" --audit -C d list inner', audited(b'inner: same')['out']),
+        'a path of 4,095 bytes': ('-C d "$(printf "./%.0s" $(seq 2044))inner" | cut -c1-16', X64 + b'\n'),
+    }
+    long = b'./' * 2045 + b'inner'
+    wrong = fails([messages.wrong("'-C' twice or without a directory")])
+    return [
+        *(Case(f'-C of {name}', shell=f'"$X" {args}', expected=ours(out)) for name, (args, out) in found.items()),
+        Case('--directory of a file', ('--directory', 'd', 'inner'), expected=ours(inner)),
+        Case('-C of names in a list', shell='echo inner >d/names; "$X" --files-from -C d names', expected=ours(inner)),
+        Case('-C of a missing file', ('-C', 'd', 'a'), expected=fails([messages.unopened('a')])),
+        Case('-C of an empty name', ('-C', 'd', ''), expected=fails([messages.unopened('')])),
+        Case('-C of a missing directory', ('-C', 'gone', 'inner'), expected=fails([messages.unopened('inner')])),
+        Case('-C of the directory itself', ('-C', 'd', '.'), expected=fails([messages.is_folder('.')])),
+        Case(
+            '-C of a path of 4,097 bytes',
+            shell='"$X" -C d "$(printf "./%.0s" $(seq 2045))inner"',
+            expected=fails([messages.unopened(long, 'File name too long')]),
+        ),
+        Case('-C without a directory', ('-C',), expected=fails([messages.wrong("'-C'")])),
+        Case('-C of nothing', ('-C', '', 'a'), expected=wrong),
+        Case('--directory= of nothing', ('--directory=', 'a'), expected=wrong),
+        Case('-C before an option', ('-C', '-r', 'd'), expected=wrong),
+        Case('-C twice', ('-C', 'd', '--directory=.', 'inner'), expected=wrong),
+        Case('-C before other letters', ('-Cr', 'd'), expected=fails([messages.wrong("'-Cr'")])),
     ]
 
 
@@ -1410,6 +1451,7 @@ CASES = (
     + trees()
     + small_stacks()
     + folders()
+    + directories()
     + named()
 )
 

@@ -14,7 +14,7 @@ FILES = {'bash': 'xxhsum.bash', 'zsh': '_xxhsum', 'fish': 'xxhsum.fish'}
 ALGORITHM = '-H#'
 ALGORITHMS = {'-H0': 'XXH32', '-H1': 'XXH64', '-H2': 'XXH3 of 128 bits', '-H3': 'XXH3 of 64 bits'}
 # The options that an argument follows, and its name in the help.
-VALUES = {'--exclude': 'PATTERN', '--format': 'FORMAT'}
+VALUES = {'--exclude': 'PATTERN', '--format': 'FORMAT', '-C': 'DIR', '--directory': 'DIR'}
 WRITTEN = 'Written from the help by checks/xxhsum --completions.'
 
 
@@ -58,7 +58,10 @@ def for_zsh(options):
         group = f'({" ".join(names)})' if len(names) > 1 else ''
         for name in names:
             value = VALUES.get(name, '').lower()
-            specs.append(quoted(f'*{name}=[{about}]:{value}:' if value else f'{group}{name}[{about}]'))
+            if value == 'dir':
+                specs.append(quoted(f'{group}{name}{"=" * (len(name) > 2)}[{about}]:{value}:_files -/'))
+            else:
+                specs.append(quoted(f'*{name}=[{about}]:{value}:' if value else f'{group}{name}[{about}]'))
     return (
         f'#compdef {" ".join(NAMES)}\n# Completions of xxhsum for zsh. {WRITTEN}\n_arguments -s -S \\\n'
         + ''.join(f'    {spec} \\\n' for spec in specs)
@@ -68,10 +71,11 @@ def for_zsh(options):
 
 def fish_switch(name):
     """A name as fish's `complete` takes it: long, a single letter, or longer after a single dash. `-x` if it needs an
-    argument."""
-    if name in VALUES:
-        return f'-x -l {name[2:]}'
-    return f'-l {name[2:]}' if name.startswith('--') else f'-s {name[1:]}' if len(name) == 2 else f'-o {name[1:]}'
+    argument, `-r` if that is a directory."""
+    needs = {'': '', 'DIR': '-r '}.get(VALUES.get(name, ''), '-x ')
+    return needs + (
+        f'-l {name[2:]}' if name.startswith('--') else f'-s {name[1:]}' if len(name) == 2 else f'-o {name[1:]}'
+    )
 
 
 def for_fish(options):

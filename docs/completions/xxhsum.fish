@@ -9,6 +9,7 @@ for program in xxhsum xxh32sum xxh64sum xxh128sum xxh3sum
     complete -c $program -x -l format -d 'with --audit: print text, the default, or json, an object per line'
     complete -c $program -s r -l recursive -d 'read the files below each directory, sorted by name; not with -c or lists of names'
     complete -c $program -x -l exclude -d 'with -r: skip files and directories whose name matches PATTERN: * any bytes, ? any byte, \\ quotes; not the FILEs themselves'
+    complete -c $program -r -s C -r -l directory -d 'as after \'cd DIR\': names, also those in lists, are relative to DIR'
     complete -c $program -l files-from -l filelist -d 'read the names of files from the FILEs, one name per line'
     complete -c $program -l files0-from -d 'the same, with a NUL after each name'
     complete -c $program -l tag -d 'print BSD-style checksum lines'

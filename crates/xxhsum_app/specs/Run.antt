@@ -1,6 +1,6 @@
 -- A run of the program by its arguments, which may request a tree.
 use Rattle.std.specs.Prelude.{◌≡◌, ℕ, Bool, ◌&&◌, ◌⊎◌, List, [], ◌∷◌, Option, Some, None, codes, drop, MatchBool, Result, Ok, Err}
-use Rattle.xxhsum_app.specs.Prelude.{Effect, Files, Input, Options, Stop}
+use Rattle.xxhsum_app.specs.Prelude.{Effect, Files, FolderRules, Input, Options, SourceRules, Stop, StoreRules, files_of}
 use Rattle.xxhsum_program.specs.declared.process.Interactive.{Interactive}
 use Rattle.xxhsum_program.specs.HashNames.{SaysNames}
 use Rattle.xxhsum_program.specs.Streams.{err_of, streams_of}
@@ -8,8 +8,11 @@ use Rattle.xxhsum_app.specs.Audits.{Audits}
 use Rattle.xxhsum_app.specs.Finds.{AndThen, HasNoRoom, OnlyReports}
 use Rattle.xxhsum_app.specs.Messages.{effect_messages, messages_of}
 use Rattle.xxhsum_app.specs.Names.{ListNames, ListNone, end_of}
-use Rattle.xxhsum_app.specs.Walk.{Tree, WalksAll, WalksSome}
-use Rattle.xxhsum_options.specs.Options.{are_listed}
+use Rattle.xxhsum_app.specs.Walk.{Tree, WalksAll, WalksSome, tree_of, without}
+use Rattle.xxhsum_fs.specs.Below.{IsBelow, folders_below, store_below}
+use Rattle.xxhsum_fs.specs.declared.below.Below.{Below}
+use Rattle.xxhsum_options.specs.Exclude.{patterns_in}
+use Rattle.xxhsum_options.specs.Options.{are_listed, directory_in}
 use Rattle.xxhsum_program.specs.Command.{IsProgram, command_of, has_none}
 use Rattle.xxhsum_program.specs.Run.{DoesCommand, PerformsAs, PerformsOn, style_of}
 
@@ -61,6 +64,15 @@ PerformsWords tree files input effect options words =
     (MatchBool options.walks (WalksFolders tree files effect options words)
     (MatchBool (are_listed options.names_from) (WalksNames files input effect options words)
     (PerformsAs files input effect options words)))
+
+-- The same below the directory of `-C`, without the names in directories that a pattern of `--exclude` matches. `flags` are
+-- the arguments before the words.
+abbrev pub PerformsBelow : {S F R W E : Type 0} → StoreRules S F → FolderRules S → SourceRules F → S → Input R → Effect W E
+    → List (List ℕ) → Options → List (List ℕ) → Type 0
+PerformsBelow {S} opening folders reading store input effect flags options words =
+    (below : Below S) × IsBelow (directory_in options flags) store below
+    × PerformsWords (without (patterns_in flags) (tree_of (store_below opening) (folders_below folders) below))
+    (files_of (store_below opening) reading below) input effect options words
 
 -- The command of the arguments is done; or memory for the arguments ran out, and nothing is printed or reported.
 abbrev pub DoesArguments : {W E : Type 0} → (List (List ℕ) → Options → List (List ℕ) → Type 0) → Effect W E → Interactive

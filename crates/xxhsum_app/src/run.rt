@@ -2,7 +2,7 @@
 
 ghost use Rattle.std.specs.Prelude.{◌≡◌, false, Bool, List, ℕ, Option, Some, Result, drop, map, IfSome};
 ghost use Rattle.xxhsum_app.specs.Prelude.{Stop, Streams};
-ghost use Rattle.xxhsum_app.specs.Run.{AuditsBelow, AuditsWords, DoesArguments, PerformsWords, WalksFolders, WalksNames, all_well};
+ghost use Rattle.xxhsum_app.specs.Run.{AuditsBelow, AuditsWords, DoesArguments, PerformsBelow, PerformsWords, WalksFolders, WalksNames, all_well};
 ghost use Rattle.xxhsum_app.specs.Walk.{tree_of, without};
 ghost use Rattle.xxhsum_options.specs.Exclude.{patterns_in};
 ghost use Rattle.xxhsum_options.specs.Options.{are_listed};
@@ -17,10 +17,11 @@ use crate::names::names_listed;
 use crate::walk::files_below;
 use std::alloc::{AllocError, Global};
 use xxh_io::streams::{Sink, Source};
+use xxhsum_fs::below::Below;
 use xxhsum_fs::folders::Folders;
 use xxhsum_fs::store::Store;
 use xxhsum_options::name::default_kind;
-use xxhsum_options::options::{parse_args, words_before, words_behind};
+use xxhsum_options::options::{directory_in, parse_args, words_before, words_behind};
 use xxhsum_output::output::Output;
 use xxhsum_program::arguments::{Arguments, all_arguments};
 use xxhsum_program::check::check_lists;
@@ -36,8 +37,8 @@ use xxhsum_program::stop::Stop;
 use xxhsum_program::streams::Streams;
 use xxhsum_program::terminal::TimedSink;
 
-/// Does what the arguments ask for, over a store of files and these streams. Returns the exit status: 0 if every file
-/// was hashed or matches its line, and all output is written, otherwise 1.
+/// Does what the arguments ask for, over a store of files, or below a directory of it (`-C`), and over these streams.
+/// Returns the exit status: 0 if every file was hashed or matches its line, and all output is written, otherwise 1.
 ///
 /// The caller shows that neither the input nor the output has failed.
 pub fn run<A, S, R, W, E, T>(
@@ -59,9 +60,8 @@ where
     ensures { (args : Option (List (List ℕ))) × (done : Result Bool Stop)
         × (start met : Streams W E) × IfSome args (AreArguments A.holds A.ends arguments.now)
         × Releases (rules_of W.Sink W.held W.has_lost E.Sink) streams.old start
-        × DoesArguments (λ patterns. PerformsWords
-        (without patterns (tree_of S.Store S.Folders store.now))
-        (files_of S.Store S.File.Source store.now) (input_of R.Source console.input)
+        × DoesArguments (PerformsBelow S.Store S.Folders S.File.Source store.now
+        (input_of R.Source console.input)
         (effect_of (rules_of W.Sink W.held W.has_lost E.Sink) start met done))
         (effect_of (rules_of W.Sink W.held W.has_lost E.Sink) start met done)
         console.interactive args
@@ -96,9 +96,8 @@ where
     requires written { IsWritten W.held W.has_lost streams.old.out }
     ensures { let effect = effect_of (rules_of W.Sink W.held W.has_lost E.Sink)
         streams.old streams.new result in
-        DoesArguments (λ patterns. PerformsWords
-        (without patterns (tree_of S.Store S.Folders store.now))
-        (files_of S.Store S.File.Source store.now) (input_of R.Source console.input) effect)
+        DoesArguments (PerformsBelow S.Store S.Folders S.File.Source store.now
+        (input_of R.Source console.input) effect)
         effect console.interactive (Some (map (λ argument. argument.items) args.now)) }
 {
     let Console {
@@ -122,13 +121,15 @@ where
         eprint_wrong(&[b"Wrong parameters"], program, streams.messages());
         return Ok(false);
     }
+    let flags = words_before(words, place);
+    let below = Below::new(directory_in(options, flags), store);
     let context = Context {
         alloc,
-        store,
+        store: &below,
         options,
         progress: ProgressDisplay::new(terminal, interactive, options),
     };
-    perform_words(&context, words_before(words, place), names, input, streams)
+    perform_words(&context, flags, names, input, streams)
 }
 
 // Audits, hashes the files below folders, or hashes or checks the words or the names in lists of names.

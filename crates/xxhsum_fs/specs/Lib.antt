@@ -1,3 +1,4 @@
+pub mod Below
 pub mod Calls
 pub mod Entries
 pub mod Folders

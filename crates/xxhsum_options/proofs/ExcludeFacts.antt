@@ -1,5 +1,5 @@
 -- Lemmas on patterns with `*`: the first suffix of a name that leads to the next `*` is the one to go on from.
-use Rattle.std.proofs.Common.{◌≡◌, ◌⊎◌, ℕ, zero, suc, Bool, true, false, not, ◌&&◌, ◌||◌, ◌==◌, List, [], ◌∷◌, drop, refl, sym, ap, ◌∙◌, inl, inr}
+use Rattle.std.proofs.Common.{◌≡◌, ℕ, zero, suc, Bool, true, false, not, ◌&&◌, ◌||◌, ◌==◌, List, [], ◌∷◌, drop, refl, sym, ◌∙◌, inl, inr}
 use Rattle.std.proofs.lemmas.Bool.{and_parts, or_cases, or_left, or_right}
 use Rattle.xxhsum_options.specs.Exclude.{IsLeftmost, ahead_value, any_suffix, first_and, matches, matches_from}
 use Rattle.xxhsum_options.specs.declared.exclude.Ahead.{Ahead}

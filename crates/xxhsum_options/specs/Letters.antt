@@ -49,10 +49,10 @@ past_number options None = Err (Settles NumberTooLarge)
 abbrev pub skipped_number : Options → List ℕ → Result Letter Step
 skipped_number options after = past_number options (number_of after)
 
--- The effect of a letter that these others follow. `-` is no letter. `H`, `i` and `B` take a number.
+-- The effect of a letter that these others follow. No letter follows `C`. `-` is no letter. `H`, `i` and `B` take a number.
 abbrev pub letter_of : Options → ℕ → List ℕ → Result Letter Step
 letter_of options letter after =
-    if letter == 45 then Err IsWrong
+    if options.awaits_directory || letter == 45 then Err IsWrong
     else if letter == 72 then kind_step options after
     else if letter == 105 || letter == 66 then skipped_number options after
     else alone (of_letter ROWS options letter)

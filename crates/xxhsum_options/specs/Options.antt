@@ -1,9 +1,9 @@
 -- The meaning of the arguments.
-use Rattle.std.specs.Prelude.{ℕ, ◌+◌, ◌-◌, ◌==◌, Bool, not, List, [], ◌∷◌, drop, length, true, false, bytes_eq, nat_le, nat_lt, ◌&&◌, ◌||◌, codes, if◌then◌else◌}
+use Rattle.std.specs.Prelude.{ℕ, ◌+◌, ◌-◌, ◌==◌, Bool, not, List, [], ◌∷◌, Option, Some, None, drop, get_or, is_some, length, true, false, bytes_eq, nat_le, nat_lt, ◌&&◌, ◌||◌, codes, if◌then◌else◌}
 use Rattle.std.specs.List.{list_any}
 use Rattle.xxh_io.specs.declared.kind.Kind.{Kind}
 use Rattle.xxhsum_options.specs.declared.options.ParsedArgs.{ParsedArgs}
-use Rattle.xxhsum_options.specs.declared.options.ParsedArgs.TheVariants.{Run, WrongOption, NulsInList, FormatWithoutAudit, NulsInJson, ExcludeWithoutWalk, SlashInPattern, InputBesideNames, WalkBesideLists, WalkOfNothing}
+use Rattle.xxhsum_options.specs.declared.options.ParsedArgs.TheVariants.{Run, WrongOption, NulsInList, FormatWithoutAudit, NulsInJson, ExcludeWithoutWalk, SlashInPattern, WrongDirectory, InputBesideNames, WalkBesideLists, WalkOfNothing}
 use Rattle.xxhsum_options.specs.declared.options.NamesFrom.{NamesFrom}
 use Rattle.xxhsum_options.specs.declared.options.NamesFrom.TheVariants.{Words, Lines, Nuls}
 use Rattle.xxhsum_options.specs.declared.options.Options.{Options}
@@ -34,6 +34,8 @@ no_options kind = record {
   walks = false;
   excludes = false;
   awaits_pattern = false;
+  directory = None;
+  awaits_directory = false;
   names_from = Words;
   takes_terminal = false;
 }
@@ -51,6 +53,26 @@ format_step options value =
     if not is_json && not (bytes_eq value (codes "text")) then IsWrong
     else Takes (record options { has_format = true; awaits_format = false; is_json = is_json })
 
+-- The effect of a directory of `-C`, which argument `at` has, on these options. It is refused if it is empty, begins with
+-- `-`, or is the second one.
+abbrev pub directory_step : ℕ → Options → List ℕ → Step
+directory_step at options [] = Settles WrongDirectory
+directory_step at options (first ∷ rest) =
+    if first == 45 || is_some options.directory then Settles WrongDirectory
+    else Takes (record options { directory = Some at; awaits_directory = false })
+
+-- The directory in an argument: the argument itself, or the rest of it after `--directory=`.
+abbrev pub directory_of : List ℕ → List ℕ
+directory_of word = if begins_with (codes "--directory=") word then drop 12 word else word
+
+-- The directory of `-C`, by the index of its argument. Without `-C` it is empty.
+abbrev pub directory_at : Option ℕ → List (List ℕ) → List ℕ
+directory_at None words = []
+directory_at (Some at) words = directory_of (get_or words at [])
+
+abbrev pub directory_in : Options → List (List ℕ) → List ℕ
+directory_in options words = directory_at options.directory words
+
 -- The effect of an argument that is no value on these options.
 abbrev pub dash_step : Options → List ℕ → Step
 dash_step options word =
@@ -59,13 +81,15 @@ dash_step options word =
     else if begins_with (codes "-") word then letters_step 0 options (drop 1 word)
     else EndsBefore
 
--- The effect of an argument on these options.
-unfoldable pub word_step : Options → List ℕ → Step
-word_step options word =
-    if options.awaits_pattern then pattern_step options word
+-- The effect of the argument of index `at` on these options.
+unfoldable pub word_step : ℕ → Options → List ℕ → Step
+word_step at options word =
+    if options.awaits_directory then directory_step at options word
+    else if options.awaits_pattern then pattern_step options word
     else if begins_with (codes "--exclude=") word then pattern_step options (drop 10 word)
     else if options.awaits_format then format_step options word
     else if begins_with (codes "--format=") word then format_step options (drop 9 word)
+    else if begins_with (codes "--directory=") word then directory_step at options (drop 12 word)
     else dash_step options word
 
 -- True if the names are read from lists of names.
@@ -93,11 +117,11 @@ leaves_input options names =
     have_input names || (options.takes_terminal && nat_lt (lists_before options) (length names))
 
 -- The run with these options. Its names are the arguments from index `at` on. `--exclude` is refused without a pattern or
--- without `-r`, `--format` without a value or without `--audit`. `-z` is refused with `-c` or `--format=json`. `-r` is
--- refused with `-c`, with lists of names, or without a name. `-` is refused with names.
+-- without `-r`, `--format` without a value or without `--audit`, `-C` without a directory. `-z` is refused with `-c` or
+-- `--format=json`. `-r` is refused with `-c`, with lists of names, or without a name. `-` is refused with names.
 unfoldable pub run_from : Options → ℕ → List (List ℕ) → ParsedArgs
 run_from options at names =
-    if options.awaits_pattern || options.awaits_format then WrongOption (at - 1)
+    if options.awaits_pattern || options.awaits_format || options.awaits_directory then WrongOption (at - 1)
     else if options.ends_in_nul && options.checks then NulsInList
     else if options.has_format && not options.audits then FormatWithoutAudit
     else if options.is_json && options.ends_in_nul then NulsInJson
@@ -119,7 +143,7 @@ after_word (Settles parsed) at options word words go_on = parsed
 abbrev pub parsed_after : ℕ → Options → List (List ℕ) → ParsedArgs
 parsed_after at options [] = run_from options at []
 parsed_after at options (word ∷ words) =
-    after_word (word_step options word) at options word words (λ next. parsed_after (at + 1) next words)
+    after_word (word_step at options word) at options word words (λ next. parsed_after (at + 1) next words)
 
 -- The meaning of the arguments after the program's name.
 abbrev pub parsed_args : Kind → List (List ℕ) → ParsedArgs

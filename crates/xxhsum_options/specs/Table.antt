@@ -6,7 +6,7 @@ use Rattle.xxhsum_options.specs.declared.options.Options.{Options}
 use Rattle.xxhsum_options.specs.declared.options.Step.{Step}
 use Rattle.xxhsum_options.specs.declared.options.Step.TheVariants.{EndsAfter, IsWrong, Settles, Takes}
 use Rattle.xxhsum_options.specs.declared.table.Action.{Action}
-use Rattle.xxhsum_options.specs.declared.table.Action.TheVariants.{Checks, Audits, Formats, Walks, Excludes, Lists, Tags, TurnsRound, EndsInNul, Nothing, Quiets, Silences, IgnoresMissing, IsStrict, Warns, EndsOptions, Returns}
+use Rattle.xxhsum_options.specs.declared.table.Action.TheVariants.{Checks, Audits, Formats, Walks, Excludes, Enters, Lists, Tags, TurnsRound, EndsInNul, Nothing, Quiets, Silences, IgnoresMissing, IsStrict, Warns, EndsOptions, Returns}
 
 -- The effect of an option on these options.
 abbrev pub action_step : Action → Options → Step
@@ -15,6 +15,7 @@ action_step Audits options = Takes (record options { audits = true })
 action_step Formats options = Takes (record options { awaits_format = true })
 action_step Walks options = Takes (record options { walks = true })
 action_step Excludes options = Takes (record options { awaits_pattern = true })
+action_step Enters options = Takes (record options { awaits_directory = true })
 action_step (Lists from) options = Takes (record options { names_from = from })
 action_step Tags options = Takes (record options { is_tagged = true })
 action_step TurnsRound options = Takes (record options { is_little_endian = true })

@@ -1,7 +1,7 @@
 //! The arguments of the command line.
 
-ghost use Rattle.std.specs.Prelude.{◌≡◌, drop, map, take};
-ghost use Rattle.xxhsum_options.specs.Options.{dash_step, format_step, have_input, leaves_input, lists_audited, lists_before, parsed_args, pattern_step, run_from, word_step};
+ghost use Rattle.std.specs.Prelude.{◌≡◌, [], drop, get_or, map, take};
+ghost use Rattle.xxhsum_options.specs.Options.{dash_step, directory_in, directory_of, directory_step, format_step, have_input, leaves_input, lists_audited, lists_before, parsed_args, pattern_step, run_from, word_step};
 
 use crate::letters::letters;
 use crate::table::name_step;
@@ -69,6 +69,10 @@ pub struct Options {
     pub excludes: bool,
     /// True if the next argument is a pattern of `--exclude`.
     pub awaits_pattern: bool,
+    /// The index of the argument with the directory of `-C`.
+    pub directory: Option<usize>,
+    /// True if the next argument is the directory of `-C`.
+    pub awaits_directory: bool,
     /// The source of the names.
     pub names_from: NamesFrom,
     /// `-`: standard input is read even if it is a terminal.
@@ -102,6 +106,8 @@ pub enum ParsedArgs {
     ExcludeWithoutWalk,
     /// An error: a pattern of `--exclude` has a `/`, which no name in a directory has.
     SlashInPattern,
+    /// An error: the directory of `-C` is empty, begins with `-`, or is the second one.
+    WrongDirectory,
     /// An error: `-` was given with names, or after `--`, so standard input is not read.
     InputBesideNames,
     /// An error: an option has a number that is too large.
@@ -146,11 +152,13 @@ pub fn parse_args(kind: Kind, words: &[Vec<u8>]) -> ParsedArgs
         walks: false,
         excludes: false,
         awaits_pattern: false,
+        directory: None,
+        awaits_directory: false,
         names_from: NamesFrom::Words,
         takes_terminal: false,
     };
     for (at, word) in words.iter().enumerate() {
-        match word_step(word.as_slice(), options) {
+        match word_step(at, word.as_slice(), options) {
             Step::Takes(next) => options = next,
             Step::EndsBefore => return run_from(options, at, words),
             Step::EndsAfter => return run_from(options, at + 1, words),
@@ -162,14 +170,14 @@ pub fn parse_args(kind: Kind, words: &[Vec<u8>]) -> ParsedArgs
 }
 
 // Returns the run by these options, of the names from this index on. Refuses `--exclude` without a pattern or a walk,
-// `--format` without a value or an audit, a NUL ending of a check or of JSON, a walk without a directory name, and
-// standard input that would stay unread.
+// `--format` without a value or an audit, `-C` without a directory, a NUL ending of a check or of JSON, a walk without a
+// directory name, and standard input that would stay unread.
 #[tactic(auto, unfolding(crate::specs::Options::run_from))]
 fn run_from(options: Options, names_from: usize, words: &[Vec<u8>]) -> ParsedArgs
     ensures { result ≡ run_from options names_from
         (drop names_from (map (λ word. word.items) words.now)) }
 {
-    if options.awaits_pattern || options.awaits_format {
+    if options.awaits_pattern || options.awaits_format || options.awaits_directory {
         return ParsedArgs::WrongOption {
             at: names_from.saturating_sub(1),
         };
@@ -222,6 +230,36 @@ pub fn words_behind(words: &[Vec<u8>], place: usize) -> &[Vec<u8>]
     }
 }
 
+/// Returns the directory of `-C` among these arguments, or nothing without `-C`.
+pub fn directory_in(options: Options, words: &[Vec<u8>]) -> &[u8]
+    ensures { result.now ≡ directory_in options (map (λ word. word.items) words.now) }
+{
+    match options.directory {
+        Some(at) => directory_of(word_at(words, at)),
+        None => b"",
+    }
+}
+
+/// Returns the argument at this index, or nothing if there is none.
+pub fn word_at(words: &[Vec<u8>], at: usize) -> &[u8]
+    ensures { result.now ≡ get_or (map (λ word. word.items) words.now) at [] }
+{
+    match words.get(at) {
+        Some(word) => word,
+        None => b"",
+    }
+}
+
+// Returns the directory in an argument of `-C` or `--directory=`.
+fn directory_of(word: &[u8]) -> &[u8]
+    ensures { result.now ≡ directory_of word.now }
+{
+    match word.strip_prefix(b"--directory=") {
+        Some(directory) => directory,
+        None => word,
+    }
+}
+
 // True if `-` is one of the names, or was given before names with which standard input is not read.
 fn leaves_input(options: Options, names: &[Vec<u8>]) -> bool
     ensures { result ≡ leaves_input options (map (λ name. name.items) names.now) }
@@ -259,11 +297,14 @@ fn have_input(names: &[Vec<u8>]) -> bool
     false
 }
 
-// Applies the argument to these options.
+// Applies the argument of this index to these options.
 #[tactic(auto, unfolding(crate::specs::Options::word_step))]
-fn word_step(word: &[u8], options: Options) -> Step
-    ensures { result ≡ word_step options word.now }
+fn word_step(at: usize, word: &[u8], options: Options) -> Step
+    ensures { result ≡ word_step at options word.now }
 {
+    if options.awaits_directory {
+        return directory_step(at, word, options);
+    }
     if options.awaits_pattern {
         return pattern_step(word, options);
     }
@@ -275,6 +316,9 @@ fn word_step(word: &[u8], options: Options) -> Step
     }
     if let Some(value) = word.strip_prefix(b"--format=") {
         return format_step(value, options);
+    }
+    if let Some(directory) = word.strip_prefix(b"--directory=") {
+        return directory_step(at, directory, options);
     }
     dash_step(word, options)
 }
@@ -308,6 +352,23 @@ fn pattern_step(pattern: &[u8], options: Options) -> Step
     Step::Takes(Options {
         excludes: true,
         awaits_pattern: false,
+        ..options
+    })
+}
+
+// Applies a directory of `-C` to these options: that of the argument of this index.
+fn directory_step(at: usize, directory: &[u8], options: Options) -> Step
+    ensures { result ≡ directory_step at options directory.now }
+{
+    let Some((first, _)) = directory.split_first() else {
+        return Step::Settles(ParsedArgs::WrongDirectory);
+    };
+    if *first == b'-' || options.directory.is_some() {
+        return Step::Settles(ParsedArgs::WrongDirectory);
+    }
+    Step::Takes(Options {
+        directory: Some(at),
+        awaits_directory: false,
         ..options
     })
 }

@@ -4,16 +4,15 @@ use Rattle.xxhsum_program.specs.Prelude.{Eprints, Options, SinkRules, Stop, Writ
 use Rattle.xxhsum_program.specs.declared.process.Interactive.{Interactive}
 use Rattle.xxhsum_program.specs.declared.usage.TheConstants.{ABOUT, BEFORE, BEHIND, NO_BENCHMARK, TITLE}
 use Rattle.xxhsum_program.specs.Arguments.{IsLastPart}
-use Rattle.xxhsum_options.specs.Exclude.{patterns_in}
 use Rattle.xxhsum_options.specs.Name.{kind_of_program}
 use Rattle.xxhsum_options.specs.Options.{are_listed, parsed_args}
 use Rattle.xxhsum_options.specs.Table.{rows_text}
 use Rattle.xxhsum_options.specs.declared.table.TheConstants.{ROWS}
 use Rattle.xxhsum_options.specs.declared.options.ParsedArgs.{ParsedArgs}
-use Rattle.xxhsum_options.specs.declared.options.ParsedArgs.TheVariants.{Run, Benchmark, Version, Help, WrongOption, NulsInList, FormatWithoutAudit, NulsInJson, WalkBesideLists, WalkOfNothing, ExcludeWithoutWalk, SlashInPattern, InputBesideNames, NumberTooLarge}
+use Rattle.xxhsum_options.specs.declared.options.ParsedArgs.TheVariants.{Run, Benchmark, Version, Help, WrongOption, NulsInList, FormatWithoutAudit, NulsInJson, WalkBesideLists, WalkOfNothing, ExcludeWithoutWalk, SlashInPattern, WrongDirectory, InputBesideNames, NumberTooLarge}
 
--- A text that is printed, or reported as an error, or a run that reads files: its options, its patterns of `--exclude`,
--- and its names.
+-- A text that is printed, or reported as an error, or a run that reads files: its options, the arguments before its
+-- names, and its names.
 pub data Command : Type 0 where
   Tells : List ℕ → Command
   Answers : List ℕ → Command
@@ -66,6 +65,7 @@ answer_text program words WalkBesideLists =
 answer_text program words WalkOfNothing = wrong_text (codes "Wrong parameters: '-r' without a FILE") program
 answer_text program words ExcludeWithoutWalk = wrong_text (codes "Wrong parameters: '--exclude' without '-r'") program
 answer_text program words SlashInPattern = wrong_text (codes "Wrong parameters: '/' in a pattern of '--exclude'") program
+answer_text program words WrongDirectory = wrong_text (codes "Wrong parameters: '-C' twice or without a directory") program
 answer_text program words InputBesideNames =
     codes "Error: '-' is standard input, which can't be read with files; for a file of that name use './-'.\n"
 answer_text program words (Run options place) = []
@@ -86,17 +86,17 @@ abbrev pub requested_run : ParsedArgs → Option (Options × ℕ)
 requested_run (Run options place) = Some (options, place)
 requested_run parsed = None
 
--- The command of a run with these options, patterns and names.
+-- The command of a run with these options, arguments before the names, and names.
 abbrev pub command_of_run : Interactive → List ℕ → Options → List (List ℕ) → List (List ℕ) → Command
-command_of_run interactive program options patterns names =
+command_of_run interactive program options flags names =
     if waits_for_terminal interactive options names then Answers (wrong_text (codes "Wrong parameters") program)
-    else Reads options patterns names
+    else Reads options flags names
 
 abbrev pub command_from : Interactive → List ℕ → List (List ℕ) → ParsedArgs → Option (Options × ℕ) → Command
 command_from interactive program words parsed None =
     let text = answer_text program words parsed in if is_well parsed then Tells text else Answers text
 command_from interactive program words parsed (Some run) =
-    command_of_run interactive program run.0 (patterns_in (take run.1 words)) (drop run.1 words)
+    command_of_run interactive program run.0 (take run.1 words) (drop run.1 words)
 
 -- The command of the arguments after the program's name.
 abbrev pub command_of : Interactive → List ℕ → List (List ℕ) → Command

@@ -44,7 +44,7 @@ DoesCommand performs effect (Tells text) =
 DoesCommand performs effect (Answers text) =
     (effect.result ≡ Ok false) × (effect.new.out ≡ effect.old.out)
     × Eprints effect.rules.reporting text (err_of effect.old) (err_of effect.new)
-DoesCommand performs effect (Reads options patterns words) = performs patterns options words
+DoesCommand performs effect (Reads options flags words) = performs flags options words
 
 -- ---- the end
 

@@ -1,6 +1,6 @@
 //! Decides what the arguments ask for, and runs over files and lists.
 
-ghost use Rattle.std.specs.Prelude.{◌≡◌, false, Bool, List, ℕ, Option, Result, [], drop, get_or, map, IfSome};
+ghost use Rattle.std.specs.Prelude.{◌≡◌, false, Bool, List, ℕ, Option, Result, drop, map, IfSome};
 ghost use Rattle.xxhsum_program.specs.Files.{files_of, input_of};
 ghost use Rattle.xxhsum_program.specs.Joined.{joined};
 ghost use Rattle.xxhsum_program.specs.Order.{effect_of, rules_of};
@@ -20,7 +20,7 @@ use crate::terminal::TimedSink;
 use crate::usage::{ABOUT, BEFORE, BEHIND, NO_BENCHMARK, TITLE, eprint_options};
 use xxh_io::streams::{Sink, Source};
 use xxhsum_fs::store::Store;
-use xxhsum_options::options::{Options, ParsedArgs};
+use xxhsum_options::options::{Options, ParsedArgs, word_at};
 use xxhsum_output::output::Output;
 
 // The name of standard input in lines.
@@ -201,6 +201,13 @@ pub fn eprint_answer<E: Sink>(program: &[u8], words: &[Vec<u8>], parsed: ParsedA
                 err,
             );
         }
+        ParsedArgs::WrongDirectory => {
+            eprint_wrong(
+                &[b"Wrong parameters: '-C' twice or without a directory"],
+                program,
+                err,
+            );
+        }
         ParsedArgs::InputBesideNames => {
             eprint(INPUT_BESIDE_NAMES, err);
         }
@@ -208,16 +215,6 @@ pub fn eprint_answer<E: Sink>(program: &[u8], words: &[Vec<u8>], parsed: ParsedA
         ParsedArgs::NumberTooLarge => {
             eprint(b"Error: numeric value too large \n", err);
         }
-    }
-}
-
-// Returns the argument at this index.
-fn word_at(words: &[Vec<u8>], at: usize) -> &[u8]
-    ensures { result.now ≡ get_or (map (λ word. word.items) words.now) at [] }
-{
-    match words.get(at) {
-        Some(word) => word,
-        None => b"",
     }
 }
 

@@ -5,6 +5,7 @@ use std::test::Fail;
 use xxh_io::refusal::Refusal;
 use xxh_io::script_source::{ScriptSource, SliceSource};
 use xxh_io::streams::Source;
+use xxhsum_fs::below::Below;
 use xxhsum_fs::calls::Process;
 use xxhsum_fs::memory::{MemoryEntry, MemoryFiles};
 use xxhsum_fs::store::Store;
@@ -58,6 +59,47 @@ fn a_table_gives_the_source_of_the_first_entry(rt: HostRuntime) {
             ]
         )
     );
+}
+
+// A name is relative to the directory unless it is empty or begins with a slash. A path has at most 4,095 bytes.
+#[test]
+fn a_name_leads_below_its_directory(rt: HostRuntime) -> Result<(), Fail> {
+    let entries = [
+        entry(b"d/a", ScriptSource::new(b"hello", &[16], 0), false),
+        entry(b"/a", ScriptSource::new(b"world", &[16], 0), false),
+        entry(b"d/b", ScriptSource::new(b"", &[], 1), true),
+    ];
+    let files = MemoryFiles::new(&entries);
+    let below = Below::new(b"d", &files);
+    assert!(rt;
+        leads_to(
+            &below,
+            &[
+                (b"a", b"hello", false),
+                (b"/a", b"world", false),
+                (b"b", b"fails", true),
+                (b"d/a", b"refused", false),
+                (b"", b"refused", false),
+            ]
+        )
+    );
+    assert!(rt;
+        leads_to(
+            &Below::new(b"", &files),
+            &[(b"d/a", b"hello", false), (b"a", b"refused", false)]
+        )
+    );
+    let long = [b'a'; 4094];
+    for (name, words) in [
+        (&long[1..], b"No such file or directory".as_slice()),
+        (&long[..], b"File name too long"),
+    ] {
+        let Err(why) = below.open(name) else {
+            return Err(Fail::from("it is there"));
+        };
+        assert!(rt; why.text() == words);
+    }
+    Ok(())
 }
 
 #[test]

@@ -52,6 +52,16 @@ const TABLE: &[(&str, &str)] = &[
     ("--exclude x a", "unwalked"),
     ("-r --exclude a/b c", "slash"),
     ("--exclude=/ -Z", "slash"),
+    ("-C d a", "64 in 1 2"),
+    ("-qC d -r a", "64 quiet walks in 1 3"),
+    ("--directory d a", "64 in 1 2"),
+    ("-q --directory=d a", "64 quiet in 1 2"),
+    ("-r --exclude -C a", "64 walks excludes 3"),
+    ("-C", "wrong 0"),
+    ("-Cq d a", "wrong 0"),
+    ("-C -q a", "directory"),
+    ("-C d --directory=e a", "directory"),
+    ("--directory= a", "directory"),
     ("-z -c a", "nuls"),
     ("-z --audit a", "64 nul audits 2"),
     ("-rz --audit a b", "64 nul audits walks 2"),
@@ -112,6 +122,7 @@ fn message(alloc: Global, parsed: ParsedArgs) -> Result<String, Fail> {
         ParsedArgs::WalkOfNothing => return Ok(String::from_str(alloc, "nothing")?),
         ParsedArgs::ExcludeWithoutWalk => return Ok(String::from_str(alloc, "unwalked")?),
         ParsedArgs::SlashInPattern => return Ok(String::from_str(alloc, "slash")?),
+        ParsedArgs::WrongDirectory => return Ok(String::from_str(alloc, "directory")?),
         ParsedArgs::InputBesideNames => return Ok(String::from_str(alloc, "beside")?),
         ParsedArgs::NumberTooLarge => return Ok(String::from_str(alloc, "large")?),
     };
@@ -143,6 +154,9 @@ fn message(alloc: Global, parsed: ParsedArgs) -> Result<String, Fail> {
         if is_on {
             text.push_str(word)?;
         }
+    }
+    if let Some(at) = options.directory {
+        write!(text, "in {at} ")?;
     }
     write!(text, "{names_from}")?;
     Ok(text)

@@ -1,5 +1,10 @@
 -- Definitions of the main theorem.
-use Rattle.std.specs.Prelude.{◌≡◌, ◌⊎◌, ℕ, false, List, [], ◌∷◌, ◌++◌}
+use Rattle.std.specs.Prelude.{◌≡◌, ◌⊎◌, ◌↔◌, ℕ, Bool, false, List, [], ◌∷◌, ◌++◌}
+use Rattle.xxh_io.specs.declared.refusal.Refusal.{Refusal}
+use Rattle.xxhsum_fs.specs.Below.{folders_below, store_below}
+use Rattle.xxhsum_fs.specs.Rules.{FolderRules, StoreRules}
+use Rattle.xxhsum_fs.specs.declared.below.Below.{Below}
+use Rattle.xxhsum_fs.specs.declared.folders.PathKind.{PathKind}
 use Rattle.xxhsum_program.specs.Prelude.{AllByRecursion, SinkRules, Took, one_line}
 use Rattle.xxhsum_app.specs.Walk.{Tree, given}
 use Rattle.xxhsum_app.specs.WalkLaws.{IsSteady, LeadsTo}
@@ -38,3 +43,13 @@ abbrev pub AreFilesBelow : List (List ℕ) → Tree → List (List ℕ) → List
 AreFilesBelow patterns tree names files =
     ((file : List ℕ) → IsAmong files file → LeadTo patterns tree names file)
     × (IsSteady tree → (file : List ℕ) → LeadTo patterns tree names file → IsAmong files file)
+
+-- in the store below a directory, the name leads to what this path leads to in the store
+abbrev pub LeadsAs : {S F : Type 0} → StoreRules S F → FolderRules S → S → Below S → List ℕ → List ℕ → Type 0
+LeadsAs {F = F} opening folders store below name path =
+    ((file : F) → (store_below opening).opens below name file ↔ opening.opens store path file)
+    × ((why : Refusal) → (store_below opening).refuses below name why ↔ opening.refuses store path why)
+    × ((answer : Bool) → (store_below opening).holds_directory below name answer ↔ opening.holds_directory store path answer)
+    × ((names : List (List ℕ)) → (folders_below folders).holds below name names ↔ folders.holds store path names)
+    × ((why : Refusal) → (folders_below folders).closes below name why ↔ folders.closes store path why)
+    × ((kind : PathKind) → (folders_below folders).leads below name kind ↔ folders.leads store path kind)

@@ -3,7 +3,7 @@
 //! proved from the public contracts of the crates `xxhsum_*`.
 #![tactic(auto)]
 
-ghost use Rattle.std.specs.Prelude.{◌≡◌, ◌<◌, ◌^◌, ◌↔◌, ◌++◌, Bool, List, ℕ, Option, Result, true, false, codes, IsPermutation};
+ghost use Rattle.std.specs.Prelude.{◌≡◌, ◌<◌, ◌≤◌, ◌+◌, ◌^◌, ◌↔◌, ◌++◌, ◌∷◌, [], Bool, List, ℕ, Option, Some, Result, true, false, codes, length, IsPermutation};
 ghost use Rattle.std.specs.List.{AllByRecursion, flat_map};
 ghost use Rattle.xxhsum_program.specs.Prelude.{EachHas, Eprints, Kind, Options, Refused, Shape, Style, Took};
 ghost use Rattle.xxhsum_program.specs.declared.streams.Streams.{Streams};
@@ -22,7 +22,9 @@ ghost use Rattle.xxhsum_app.specs.ReadList.{ListSaysNothing};
 ghost use Rattle.xxhsum_app.specs.Report.{remarks_of, report_text};
 ghost use Rattle.xxhsum_app.specs.Run.{WalksFolders};
 ghost use Rattle.xxhsum_app.specs.Walk.{tree_of, without};
-ghost use Rattle.xxhsum_theorems.specs.Headline.{AreFilesBelow, IsLineAtMost, IsLineOrMessage, PrintsBeginning};
+ghost use Rattle.xxhsum_fs.specs.Below.{IsBelow, path_in, stays};
+ghost use Rattle.xxhsum_fs.specs.declared.below.Below.{Below};
+ghost use Rattle.xxhsum_theorems.specs.Headline.{AreFilesBelow, IsLineAtMost, IsLineOrMessage, LeadsAs, PrintsBeginning};
 ghost use Rattle.xxhsum_theorems.specs.LineLaws.{AreLines, AreRecords, IsListLine, WritesLines};
 ghost use Rattle.xxhsum_line.specs.Entry.{Says};
 ghost use Rattle.xxhsum_line.specs.Escapes.{one_line};
@@ -96,6 +98,21 @@ pub fn each_file_below_once<S: Store + Folders, W: Sink, E: Sink>()
 {
     laws_of_walks::<S>();
 }
+
+/// With `-C DIR` the store of a run is the store below `DIR`, where each name leads to what its path leads to: the path
+/// of a relative name is `DIR/NAME`, of at most 4,095 bytes. Without `-C`, and for a name that is empty or begins with a
+/// slash, it is the name itself.
+pub fn each_name_in_directory<S: Store + Folders>()
+    ensures leads { (store : S) (below : Below S) (directory name path : List ℕ)
+        → IsBelow directory store below → path_in directory name ≡ Some path
+        → LeadsAs S.Store S.Folders store below name path }
+    ensures relative { (directory name : List ℕ) → 0 < length directory → stays name ≡ false
+        → length directory + 1 + length name ≤ 4095
+        → path_in directory name ≡ Some (directory ++ 47 ∷ name) }
+    ensures without { (name : List ℕ) → path_in [] name ≡ Some name }
+    ensures absolute { (directory name : List ℕ) → stays name ≡ true
+        → path_in directory name ≡ Some name }
+{}
 
 /// Events are exactly the bytes of both streams: standard output takes what they print and standard error what they
 /// report. If a write failed, a prefix of the printed bytes is written.

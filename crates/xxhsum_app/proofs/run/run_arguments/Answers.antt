@@ -1,4 +1,5 @@
-use Rattle.xxhsum_app.proofs.Prelude.{◌∙◌, ◌≡◌, ParsedArgs, Kind, List, None, Option, Options, Some, Interactive, parsed_args, codes, drop, false, kind_of_program, map, patterns_in, refl, sym, take, true, ℕ}
+use Rattle.xxhsum_app.proofs.Prelude.{◌∙◌, ◌≡◌, ParsedArgs, Kind, List, None, Option, Options, Some, Interactive, parsed_args, ap, codes, drop, false, kind_of_program, map, refl, sym, take, true, ℕ}
+use Rattle.xxhsum_options.specs.Options.{directory_in}
 use Rattle.xxhsum_program.specs.Command.{Answers, Reads, Tells, answer_text, command_from, command_of, is_well, requested_run, waits_for_terminal, wrong_text}
 use Rattle.xxhsum_app.proofs.run.run_arguments.Goals as goal
 
@@ -23,7 +24,7 @@ module _ (interactive : Interactive) (program : List ℕ) (words names : List (L
       let still : waits_for_terminal interactive options (drop place words) ≡ true = rw same at waits in
       rw (is, still) refl
 
-  command-reads : waits_for_terminal interactive options names ≡ false → command_from interactive program words parsed run ≡ Reads options (patterns_in (take place words)) names
+  command-reads : waits_for_terminal interactive options names ≡ false → command_from interactive program words parsed run ≡ Reads options (take place words) names
   command-reads waits =
       let still : waits_for_terminal interactive options (drop place words) ≡ false = rw same at waits in
       rw (is, still, same) refl
@@ -66,4 +67,4 @@ returns g c =
     let command = command-is c.args.console.interactive program arguments words c.default_kind.result parsed c.requested_run.result c.arguments_behind_name-words.ensures c.default_kind.ensures c.parse_args-parsed.ensures c.requested_run.ensures in
     let names = map (λ name. name.items) c.words_behind-names.result.now in
     let run = c.in-Some.found in
-    (program, c.program_of-program.ensures, rw (command ∙ command-reads c.args.console.interactive program words names parsed c.requested_run.result run.0 run.1 c.in-Some.is c.words_behind-names.ensures (sym c.waits_for_terminal.ensures ∙ c.if-waits_for_terminal.false)) (rw c.words_before.ensures at c.perform_words.ensures))
+    (program, c.program_of-program.ensures, rw (command ∙ command-reads c.args.console.interactive program words names parsed c.requested_run.result run.0 run.1 c.in-Some.is c.words_behind-names.ensures (sym c.waits_for_terminal.ensures ∙ c.if-waits_for_terminal.false)) (c.new-below.result, (c.new-below.ensures.0 ∙ c.directory_in.ensures ∙ ap (directory_in run.0) c.words_before-flags.ensures, c.new-below.ensures.1), rw c.words_before-flags.ensures at c.perform_words.ensures))

@@ -1,4 +1,4 @@
-use Rattle.std.proofs.Common.{◌≡◌, ◌==◌, ◌&&◌, ◌||◌, List, ap, arith, drop, false, not, sym, ℕ, ◌∙◌}
+use Rattle.std.proofs.Common.{◌==◌, ◌&&◌, ◌||◌, List, ap, arith, drop, false, not, sym, ℕ, ◌∙◌}
 use Rattle.xxhsum_options.specs.Exclude.{first_and, matches_from}
 use Rattle.xxhsum_options.proofs.ExcludeFacts.{first-later, passed}
 use Rattle.xxhsum_options.proofs.exclude.match_ahead.Goals as goal

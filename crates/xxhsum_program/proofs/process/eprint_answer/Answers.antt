@@ -33,6 +33,9 @@ returns-in-ExcludeWithoutWalk g c = rw c.in-ExcludeWithoutWalk.is c.eprint_wrong
 pub returns-in-SlashInPattern : goal.returns-in-SlashInPattern
 returns-in-SlashInPattern g c = rw c.in-SlashInPattern.is c.eprint_wrong-in-SlashInPattern.ensures
 
+pub returns-in-WrongDirectory : goal.returns-in-WrongDirectory
+returns-in-WrongDirectory g c = rw c.in-WrongDirectory.is c.eprint_wrong-in-WrongDirectory.ensures
+
 pub returns-in-InputBesideNames : goal.returns-in-InputBesideNames
 returns-in-InputBesideNames g c = rw c.in-InputBesideNames.is c.eprint.ensures
 

@@ -9,10 +9,11 @@ use crate::programs::xxhsum_app::names::names_listed;
 use crate::programs::xxhsum_app::walk::files_below;
 use crate::rattle::{AllocError, Global};
 use crate::programs::xxh_io::streams::{Sink, Source};
+use crate::programs::xxhsum_fs::below::Below;
 use crate::programs::xxhsum_fs::folders::Folders;
 use crate::programs::xxhsum_fs::store::Store;
 use crate::programs::xxhsum_options::name::default_kind;
-use crate::programs::xxhsum_options::options::{parse_args, words_before, words_behind};
+use crate::programs::xxhsum_options::options::{directory_in, parse_args, words_before, words_behind};
 use crate::programs::xxhsum_output::output::Output;
 use crate::programs::xxhsum_program::arguments::{Arguments, all_arguments};
 use crate::programs::xxhsum_program::check::check_lists;
@@ -28,8 +29,8 @@ use crate::programs::xxhsum_program::stop::Stop;
 use crate::programs::xxhsum_program::streams::Streams;
 use crate::programs::xxhsum_program::terminal::TimedSink;
 
-/// Does what the arguments ask for, over a store of files and these streams. Returns the exit status: 0 if every file
-/// was hashed or matches its line, and all output is written, otherwise 1.
+/// Does what the arguments ask for, over a store of files, or below a directory of it (`-C`), and over these streams.
+/// Returns the exit status: 0 if every file was hashed or matches its line, and all output is written, otherwise 1.
 ///
 /// The caller shows that neither the input nor the output has failed.
 pub fn run<A, S, R, W, E, T>(
@@ -91,13 +92,15 @@ where
         eprint_wrong(&[b"Wrong parameters"], program, streams.messages());
         return Ok(false);
     }
+    let flags = words_before(words, place);
+    let below = Below::new(directory_in(options, flags), store);
     let context = Context {
         alloc,
-        store,
+        store: &below,
         options,
         progress: ProgressDisplay::new(terminal, interactive, options),
     };
-    perform_words(&context, words_before(words, place), names, input, streams)
+    perform_words(&context, flags, names, input, streams)
 }
 
 // Audits, hashes the files below folders, or hashes or checks the words or the names in lists of names.

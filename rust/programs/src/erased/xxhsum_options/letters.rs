@@ -30,8 +30,12 @@ pub(crate) fn letters(word: &[u8], mut options: Options) -> Step {
     Step::Takes(options)
 }
 
-// Applies a letter, which these others follow. An error is the result of the whole argument, whatever follows.
+// Applies a letter, which these others follow. An error is the result of the whole argument, whatever follows. No letter
+// follows `C`.
 fn letter_at(letter: u8, after: &[u8], options: Options) -> Result<Letter, Step> {
+    if options.awaits_directory {
+        return Err(Step::IsWrong);
+    }
     match letter {
         NO_LETTER => Err(Step::IsWrong),
         b'H' => kind_letter(after, options),

@@ -18,6 +18,8 @@ pub enum Action {
     Walks,
     /// The argument after it is a pattern: names in directories that match it are skipped.
     Excludes,
+    /// The argument after it is the directory that names are relative to.
+    Enters,
     /// The names are read from lists of this form.
     Lists(NamesFrom),
     /// Lines are printed BSD-style.
@@ -49,7 +51,7 @@ pub const NO_LETTER: u8 = b'-';
 
 /// All options except those whose letter takes a number: the letter after `-`, the name after `--`, its effect, and its
 /// text in the help, which is empty if the help has no line for it.
-pub const ROWS: [(u8, &str, Action, &str); 22] = [
+pub const ROWS: [(u8, &str, Action, &str); 23] = [
     (
         b'c',
         "check",
@@ -79,6 +81,12 @@ pub const ROWS: [(u8, &str, Action, &str); 22] = [
         "exclude",
         Action::Excludes,
         " PATTERN   with -r: skip files and directories whose name matches PATTERN:\n                      * any bytes, ? any byte, \\ quotes; not the FILEs themselves",
+    ),
+    (
+        b'C',
+        "directory",
+        Action::Enters,
+        " DIR\n                      as after 'cd DIR': names, also those in lists, are relative to DIR",
     ),
     (
         b'-',
@@ -218,6 +226,7 @@ fn action_step(action: Action, mut options: Options) -> Step {
         Action::Formats => options.awaits_format = true,
         Action::Walks => options.walks = true,
         Action::Excludes => options.awaits_pattern = true,
+        Action::Enters => options.awaits_directory = true,
         Action::Lists(from) => options.names_from = from,
         Action::Tags => options.is_tagged = true,
         Action::TurnsRound => options.is_little_endian = true,

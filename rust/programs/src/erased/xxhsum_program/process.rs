@@ -16,7 +16,7 @@ use crate::programs::xxhsum_program::terminal::TimedSink;
 use crate::programs::xxhsum_program::usage::{ABOUT, BEFORE, BEHIND, NO_BENCHMARK, TITLE, eprint_options};
 use crate::programs::xxh_io::streams::{Sink, Source};
 use crate::programs::xxhsum_fs::store::Store;
-use crate::programs::xxhsum_options::options::{Options, ParsedArgs};
+use crate::programs::xxhsum_options::options::{Options, ParsedArgs, word_at};
 use crate::programs::xxhsum_output::output::Output;
 
 // The name of standard input in lines.
@@ -174,6 +174,13 @@ pub fn eprint_answer<E: Sink>(program: &[u8], words: &[Vec<u8>], parsed: ParsedA
                 err,
             );
         }
+        ParsedArgs::WrongDirectory => {
+            eprint_wrong(
+                &[b"Wrong parameters: '-C' twice or without a directory"],
+                program,
+                err,
+            );
+        }
         ParsedArgs::InputBesideNames => {
             eprint(INPUT_BESIDE_NAMES, err);
         }
@@ -181,14 +188,6 @@ pub fn eprint_answer<E: Sink>(program: &[u8], words: &[Vec<u8>], parsed: ParsedA
         ParsedArgs::NumberTooLarge => {
             eprint(b"Error: numeric value too large \n", err);
         }
-    }
-}
-
-// Returns the argument at this index.
-fn word_at(words: &[Vec<u8>], at: usize) -> &[u8] {
-    match words.get(at) {
-        Some(word) => word,
-        None => b"",
     }
 }
 
