@@ -1,8 +1,9 @@
 """Digests of many inputs in one call."""
+import operator
 import re
 import sys
 from collections.abc import Iterable, Sized
-from typing import Any, Optional, TypeVar, Union, overload
+from typing import Any, Optional, SupportsIndex, TypeVar, Union, overload
 
 from ._types import HasherType, begun
 
@@ -21,7 +22,7 @@ def many(
     rows: Iterable[Any],
     algorithm: Union[str, HasherType] = ...,
     *,
-    width: Optional[int] = ...,
+    width: Optional[SupportsIndex] = ...,
     into: None = ...,
     **key: Any,
 ) -> list[bytes]:
@@ -30,7 +31,12 @@ def many(
 
 @overload
 def many(
-    rows: Iterable[Any], algorithm: Union[str, HasherType] = ..., *, width: Optional[int] = ..., into: Into, **key: Any
+    rows: Iterable[Any],
+    algorithm: Union[str, HasherType] = ...,
+    *,
+    width: Optional[SupportsIndex] = ...,
+    into: Into,
+    **key: Any,
 ) -> Into:
     ...
 
@@ -39,7 +45,7 @@ def many(
     rows: Iterable[Any],
     algorithm: Union[str, HasherType] = 'xxh3_64',
     *,
-    width: Optional[int] = None,
+    width: Optional[SupportsIndex] = None,
     into: Any = None,
     **key: Any,
 ) -> Any:
@@ -108,13 +114,14 @@ def _view_of(rows: Any) -> Optional[memoryview]:
     return view
 
 
-def _count(view: memoryview, width: Optional[int]) -> int:
+def _count(view: memoryview, width: Optional[SupportsIndex]) -> int:
     """Returns the number of rows of a buffer."""
     if width is None:
         if view.ndim == 0 or view.ndim == 1 and view.itemsize == 1:
             raise ValueError('the bytes have no rows: width must be the length of a row')
         assert view.shape
         return view.shape[0]
+    width = operator.index(width)  # an integer of numpy may overflow
     if width <= 0 or view.nbytes % width:
         raise ValueError(f'{view.nbytes} bytes are not rows of {width} bytes')
     return view.nbytes // width
