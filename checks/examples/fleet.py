@@ -13,8 +13,8 @@
 - --anew, over a file that was changed through a shared mapping and kept its time;
 - with a file that vanishes, one that can't be read, one that grows while it is read, and a directory that can't be
   read;
-- with no worker left, no scheduler, a worker on Debian's library, and a second concurrent run, each of which must be
-  reported;
+- with no worker left, no scheduler, a worker on Debian's library, a second concurrent run, and a folder of other files
+  under the name of the run's, each of which must be reported;
 - the driver's memory over 20,000 and over 200,000 files.
 
 Scheduler and workers are processes on loopback, of the user nobody if root runs this, with all their files in a
@@ -619,6 +619,20 @@ def a_second_run(fleet):
     fleet.has_all()
 
 
+def a_folder_of_other_files(fleet):
+    """A folder under the name of the parts that has other files is refused, and left unchanged."""
+    fleet.forget()
+    folder = fleet.manifest + '.parts'
+    os.mkdir(folder)
+    os.chmod(folder, 0o777)
+    write(os.path.join(folder, 'notes'), b'of a user')
+    _, err = fleet.end(fleet.start(goes_on=True), 1)
+    found = os.listdir(folder)
+    fleet.forget()
+    check(found == ['notes'], f'the folder has {found}')
+    check(err == [f"fleet: {folder} has 'notes', which no run wrote: rename the folder, or the manifest"], err)
+
+
 def memory(fleet):
     """The maximum memory of the driver, over 20,000 and 200,000 files."""
     fleet.with_workers(2)
@@ -688,6 +702,7 @@ def check_all(report, workdir, program):
             ('files that fail', files_fail),
             ('a file grows', a_file_grows),
             ('a second run', a_second_run),
+            ('a folder of other files', a_folder_of_other_files),
             ('no worker is left', no_worker_is_left),
             ("a worker on Debian's library", other_library_is_refused),
             ('no scheduler', no_scheduler),
