@@ -540,6 +540,26 @@ def indexes_are_on_disk(fleet):
     check(len(written) == 2, 'an index is written in another way')
 
 
+# Prints if parts.py has closed its lock when it removes the folder with it.
+CLOSED_AT_THE_END = '''
+import os, sys
+import parts
+run, rmdir = parts.Parts(sys.argv[1], "/tree", None), os.rmdir
+os.rmdir = lambda path, **more: print(run.lock.closed) or rmdir(path, **more)
+run.join()
+'''
+
+
+def folder_is_closed(fleet):
+    """No file of the folder of parts is open when it is removed: on NFS the folder would then not be empty."""
+    fleet.forget()
+    folder = os.path.dirname(fleet.program)
+    found = must([sys.executable, '-B', '-c', CLOSED_AT_THE_END, fleet.manifest], cwd=folder)
+    is_left = os.path.exists(fleet.manifest + '.parts')
+    fleet.forget()
+    check(found == 'True\n' and not is_left, f'closed: {found}')
+
+
 def through_a_mapping(fleet):
     """A mapped page stays writable: later writes to it don't change the file's time. --since keeps the old digest,
     as documented on the page, and --anew finds the bytes."""
@@ -697,6 +717,7 @@ def check_all(report, workdir, program):
             ('indexes of changed files and other blocks', indexes_are_of_their_files),
             ('indexes that are cut', indexes_that_are_cut),
             ('indexes are on disk', indexes_are_on_disk),
+            ('the folder of parts is closed', folder_is_closed),
             ('a file changed through a mapping', through_a_mapping),
             ('a name too long for an index', long_names),
             ('files that fail', files_fail),

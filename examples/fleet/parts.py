@@ -12,7 +12,6 @@ it isn't a run's."""
 import fcntl
 import os
 import re
-import shutil
 
 from files import newest, records_of
 
@@ -87,7 +86,14 @@ class Parts:
             to_disk(records)
         os.replace(files + '.part', files)
         os.replace(self.manifest + '.part', self.manifest)
-        shutil.rmtree(self.folder)
+        self.remove()
+
+    def remove(self):
+        """Removes the folder. NFS keeps a removed file there under another name until it is closed."""
+        for name in os.listdir(self.folder):
+            os.remove(self.path(name))
+        self.lock.close()
+        os.rmdir(self.folder)
 
 
 def write(path, lines, is_lasting=False):
