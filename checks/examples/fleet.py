@@ -13,8 +13,8 @@
 - --anew, over a file that was changed through a shared mapping and kept its time;
 - with a file that vanishes, one that can't be read, one that grows while it is read, and a directory that can't be
   read;
-- with no worker left, no scheduler, a worker on Debian's library, a second concurrent run, and a folder of other files
-  under the name of the run's, each of which must be reported;
+- with no worker left, no scheduler, a worker on Debian's library, a second concurrent run, a folder of other files
+  under the name of the run's, and a manifest that is a folder, each of which must be reported;
 - the driver's memory over 20,000 and over 200,000 files.
 
 Scheduler and workers are processes on loopback, of the user nobody if root runs this, with all their files in a
@@ -653,6 +653,16 @@ def a_folder_of_other_files(fleet):
     check(err == [f"fleet: {folder} has 'notes', which no run wrote: rename the folder, or the manifest"], err)
 
 
+def a_manifest_that_is_a_folder(fleet):
+    """It is refused before a file is read."""
+    fleet.forget()
+    os.mkdir(fleet.manifest)
+    out, err = fleet.end(fleet.start(goes_on=True), 2)
+    os.rmdir(fleet.manifest)
+    check(not out and err[-1] == f'fleet.py: error: {fleet.manifest} is a folder', err)
+    check(not os.path.exists(fleet.manifest + '.parts'), 'a run has begun')
+
+
 def memory(fleet):
     """The maximum memory of the driver, over 20,000 and 200,000 files."""
     fleet.with_workers(2)
@@ -724,6 +734,7 @@ def check_all(report, workdir, program):
             ('a file grows', a_file_grows),
             ('a second run', a_second_run),
             ('a folder of other files', a_folder_of_other_files),
+            ('a manifest that is a folder', a_manifest_that_is_a_folder),
             ('no worker is left', no_worker_is_left),
             ("a worker on Debian's library", other_library_is_refused),
             ('no scheduler', no_scheduler),

@@ -291,6 +291,8 @@ def read_args():
             args.error(f'{name} lies in the tree')
     if not os.path.isdir(chosen.tree):
         args.error(f'{chosen.tree} is no folder')
+    if os.path.isdir(chosen.manifest):
+        args.error(f'{chosen.manifest} is a folder')
     if chosen.since and not os.path.isfile(chosen.since + '.files'):
         args.error(f'there is no {chosen.since}.files')
     if chosen.block < 1:
