@@ -663,6 +663,10 @@ def a_manifest_that_is_a_folder(fleet):
     check(not os.path.exists(fleet.manifest + '.parts'), 'a run has begun')
 
 
+def help_without_dask(fleet):
+    check('--indexes' in must([sys.executable, '-B', '-S', fleet.program, '--help']), 'no help')
+
+
 def memory(fleet):
     """The maximum memory of the driver, over 20,000 and 200,000 files."""
     fleet.with_workers(2)
@@ -735,6 +739,7 @@ def check_all(report, workdir, program):
             ('a second run', a_second_run),
             ('a folder of other files', a_folder_of_other_files),
             ('a manifest that is a folder', a_manifest_that_is_a_folder),
+            ('the help without Dask', help_without_dask),
             ('no worker is left', no_worker_is_left),
             ("a worker on Debian's library", other_library_is_refused),
             ('no scheduler', no_scheduler),

@@ -301,9 +301,9 @@ def read_args():
 
 
 def main():
+    args = read_args()
     from distributed import Client
 
-    args = read_args()
     # Dask's messages about lost workers are no errors of this run.
     logging.disable(logging.CRITICAL)
     try:
