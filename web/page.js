@@ -433,16 +433,23 @@ for (const field of [$("text"), $("seed"), $("secret"), ...document.querySelecto
 }
 takeKey(); // a browser may restore the fields
 
+/** True if text is dragged over a field, which the browser writes there. */
+function isForField({ target, dataTransfer }) {
+  return target.matches?.("textarea, input:not([type])") && !dataTransfer.types.includes("Files");
+}
+
 addEventListener("dragover", (event) => {
-  event.preventDefault();
-  document.body.classList.add("dropping");
+  const isForPage = !isForField(event);
+  if (isForPage) event.preventDefault();
+  document.body.classList.toggle("dropping", isForPage);
 });
 addEventListener("dragleave", (event) => {
   if (!event.relatedTarget) document.body.classList.remove("dropping");
 });
 addEventListener("drop", async (event) => {
-  event.preventDefault();
   document.body.classList.remove("dropping");
+  if (isForField(event)) return;
+  event.preventDefault();
   if (!$("files").disabled) add(await filesOfDrop(event.dataTransfer));
 });
 

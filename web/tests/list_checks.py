@@ -251,6 +251,26 @@ def folder_dropped(page):
     return "120 files"
 
 
+def text_dropped(page):
+    """Text that is dropped on a field is written there, and elsewhere the page stays."""
+    page.choose(page.file("some.txt", b"some bytes"))
+    digest = page.digests("some.txt")["xxh64"]
+    data = {"items": [{"mimeType": "text/plain", "data": digest}], "dragOperationsMask": 1}
+    for selector in ("h1", "#expected"):
+        x, y = page.browser.run(
+            """const it = document.querySelector(arguments[0]);
+            it.scrollIntoView();
+            const { left, top } = it.getBoundingClientRect();
+            return [left + 5, top + 5];""",
+            selector,
+        )
+        for event in ("dragEnter", "dragOver", "drop"):
+            page.browser.devtools("Input.dispatchDragEvent", type=event, x=x, y=y, data=data)
+    page.browser.wait("return document.getElementById('verdict').textContent.startsWith('Same')", seconds=10)
+    check(page.browser.run("return document.getElementById('expected').value") == digest, "another text is there")
+    check(not page.browser.run("return document.body.classList.contains('dropping')"), "it still expects a drop")
+
+
 # The drop event for the page: entries as in a browser, created by a script.
 DROP = """const event = new Event("drop", { bubbles: true, cancelable: true });
 const fileEntry = (path, file) => ({ isFile: true, isDirectory: false, fullPath: path, file });
@@ -491,6 +511,7 @@ LIST_CHECKS = {
     "improper lines of a checksum file": improper_lines,
     "a folder that is chosen": folder_chosen,
     "a folder that is dropped": folder_dropped,
+    "a text that is dropped on a field": text_dropped,
     "lines saved and copied, for xxhsum -c": lines_saved,
     "one file is removed": removed,
     "10,000 files and their checksum file": many_files,
