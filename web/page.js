@@ -30,7 +30,10 @@ const NAMED_AS_LIST = /sums?\b|digest|check|manifest|\.(xxh\w*|md5|sha\w*|txt)$/
 /** This many files are added before the page is updated. */
 const FILES_IN_A_TURN = 200;
 
-/** This many files are sent to the worker at once, if they are small: it then waits less for the page. */
+/**
+ * This many files are sent to the worker at once, if they are small: it then waits less for the page. This many are also
+ * tested for being checksum files at once.
+ */
 const FILES_AT_ONCE = 16;
 const BYTES_AT_ONCE = 8 * 1024 * 1024;
 
@@ -228,8 +231,7 @@ function showChosenKind() {
 
 /** Adds the files, checksum files as such, and shows the results. */
 async function add(found) {
-  const looksInto = ({ path }) => found.length <= FILES_LOOKED_INTO || NAMED_AS_LIST.test(path.split("/").at(-1));
-  const checks = await Promise.all(found.map((it) => (looksInto(it) ? checklistIn(it.file) : null)));
+  const checks = await checklistsIn(found);
   for (const [i, { path, file, error }] of found.entries()) {
     if (checks[i]) addChecklist(path, file, checks[i]);
     else addFile(path, file, error);
@@ -239,6 +241,17 @@ async function add(found) {
   $("files-note").textContent = found.length ? "" : "It contains no file.";
   compare();
   if (found.length) showResults();
+}
+
+/** Returns the lines of each checksum file, and null for each other file. Few are in memory at the same time. */
+async function checklistsIn(found) {
+  const looksInto = ({ path }) => found.length <= FILES_LOOKED_INTO || NAMED_AS_LIST.test(path.split("/").at(-1));
+  const checks = [];
+  for (let at = 0; at < found.length; at += FILES_AT_ONCE) {
+    const some = found.slice(at, at + FILES_AT_ONCE);
+    checks.push(...await Promise.all(some.map((it) => (looksInto(it) ? checklistIn(it.file) : null))));
+  }
+  return checks;
 }
 
 async function checklistIn(file) {

@@ -322,6 +322,25 @@ def dragged(page):
         check(page.browser.run(shown) == is_shown, f"after {event}")
 
 
+def looked_into(page):
+    """Files that may be checksum files are read a few at a time, however many there are, and one is found among them."""
+    page.browser.run(
+        """const read = Blob.prototype.arrayBuffer;
+        window.most = window.reading = 0;
+        Blob.prototype.arrayBuffer = async function () {
+            window.most = Math.max(window.most, window.reading += 1);
+            try { return await read.call(this); } finally { window.reading -= 1; }
+        };"""
+    )
+    files = {f"{i:03}.txt": b"# no list, but it begins as one\n" * 1000 for i in range(300)}
+    folder = folder_of(page, "texts", files)
+    folder_of(page, "texts", {"sums.txt": line_of("007.txt", "xxh64", folder=folder).encode()})
+    page.browser.type("#folder", folder)
+    checked(page, [["007.txt", "same"]], "1 line: 1 same.")
+    most = page.browser.run("return window.most")
+    check(0 < most <= 16, f"{most} are read at once")
+
+
 MILLION = 1_000_000
 
 
@@ -510,6 +529,7 @@ LIST_CHECKS = {
     "long lines of a checksum file": long_lines,
     "improper lines of a checksum file": improper_lines,
     "a folder that is chosen": folder_chosen,
+    "files that begin as checksum files do are read a few at a time": looked_into,
     "a folder that is dropped": folder_dropped,
     "a text that is dropped on a field": text_dropped,
     "lines saved and copied, for xxhsum -c": lines_saved,
