@@ -78,6 +78,9 @@ let jobs = 0;
 /** The expected digest that was found among the files. */
 let foundDigest = "";
 
+/** How often the list was cleared. */
+let clears = 0;
+
 /** The callbacks of a card. */
 const list = {
   isCompact: false,
@@ -229,10 +232,12 @@ function showChosenKind() {
 
 // ---- files to hash
 
-/** Adds the files, checksum files as such, and shows the results. */
+/** Adds the files, checksum files as such, and shows the results, unless the list is cleared meanwhile. */
 async function add(found) {
+  const clearsBefore = clears;
   const checks = await checklistsIn(found);
   for (const [i, { path, file, error }] of found.entries()) {
+    if (clears !== clearsBefore) return;
     if (checks[i]) addChecklist(path, file, checks[i]);
     else addFile(path, file, error);
     if (i % FILES_IN_A_TURN === FILES_IN_A_TURN - 1) await new Promise((resolve) => setTimeout(resolve));
@@ -332,6 +337,7 @@ function stopAll() {
 }
 
 function clear() {
+  clears += 1;
   queue.clear();
   for (const card of files.splice(0)) {
     if (card.state === "running") list.stop(card);

@@ -344,18 +344,34 @@ def looked_into(page):
 MILLION = 1_000_000
 
 
-def million_names(page):
-    """A folder of 1,000,000 files is listed, stopped, restarted and hashed as far as the check waits."""
-    page.set_key("wrong")
-    began = time.monotonic()
+def drop_many(page, count):
+    """Drops a folder of that many files."""
     page.browser.run(
         DROP
         % """[item({ isDirectory: true, fullPath: "/many", createReader: () => {
         const batches = [Array.from({ length: arguments[0] }, (_, i) => fileEntry(`/many/${i}`, (give) => give(good))), []];
         return { readEntries: (give) => give(batches.shift()) };
     } })]""",
-        MILLION,
+        count,
     )
+
+
+def cleared_while_added(page):
+    """A folder that is still being added when the list is cleared doesn't come back."""
+    page.set_key("wrong")
+    drop_many(page, 50_000)
+    page.browser.click("#clear")
+    time.sleep(1)
+    count = page.browser.run("return document.querySelectorAll('.card').length")
+    check(count == 0, f"{count} cards are there")
+    check("50,000" not in page.text_of("#status"), page.text_of("#status"))
+
+
+def million_names(page):
+    """A folder of 1,000,000 files is listed, stopped, restarted and hashed as far as the check waits."""
+    page.set_key("wrong")
+    began = time.monotonic()
+    drop_many(page, MILLION)
     page.browser.wait(
         "return document.getElementById('status').textContent === arguments[0]",
         f"{MILLION:,} files were added",
@@ -535,6 +551,7 @@ LIST_CHECKS = {
     "lines saved and copied, for xxhsum -c": lines_saved,
     "one file is removed": removed,
     "10,000 files and their checksum file": many_files,
+    "the list is cleared while files are added": cleared_while_added,
     "1,000,000 names": million_names,
     "verifying a download": download,
     "a small screen": small_screen,
