@@ -78,8 +78,9 @@ let jobs = 0;
 /** The expected digest that was found among the files. */
 let foundDigest = "";
 
-/** How often the list was cleared. */
+/** How often the list was cleared, and all files were stopped. */
 let clears = 0;
+let stops = 0;
 
 /** The callbacks of a card. */
 const list = {
@@ -232,14 +233,17 @@ function showChosenKind() {
 
 // ---- files to hash
 
-/** Adds the files, checksum files as such, and shows the results, unless the list is cleared meanwhile. */
+/**
+ * Adds the files, checksum files as such, and shows the results. If the list is cleared meanwhile, no more are added, and
+ * if all files are stopped, the others aren't hashed either.
+ */
 async function add(found) {
-  const clearsBefore = clears;
+  const [clearsBefore, stopsBefore] = [clears, stops];
   const checks = await checklistsIn(found);
   for (const [i, { path, file, error }] of found.entries()) {
     if (clears !== clearsBefore) return;
     if (checks[i]) addChecklist(path, file, checks[i]);
-    else addFile(path, file, error);
+    else addFile(path, file, error, stops !== stopsBefore);
     if (i % FILES_IN_A_TURN === FILES_IN_A_TURN - 1) await new Promise((resolve) => setTimeout(resolve));
   }
   if (found.length) announce(found.length === 1 ? `${found[0].path} was added` : `${counted(found.length, "file")} were added`);
@@ -269,12 +273,13 @@ async function checklistIn(file) {
   return readChecklist(file);
 }
 
-function addFile(path, file, error) {
+function addFile(path, file, error, isStopped) {
   const card = new Card(list, path, file ?? new Blob([]));
   files.push(card);
   rows.add(card);
   if (error) card.wait = () => card.end("failed", failureText(error));
-  card.wait();
+  if (isStopped && !error) card.stop();
+  else card.wait();
 }
 
 function addChecklist(path, file, lines) {
@@ -332,6 +337,7 @@ function hashAgain() {
 }
 
 function stopAll() {
+  stops += 1;
   queue.clear();
   for (const card of files.filter((card) => card.isBusy())) card.stop();
 }

@@ -367,6 +367,19 @@ def cleared_while_added(page):
     check("50,000" not in page.text_of("#status"), page.text_of("#status"))
 
 
+def stopped_while_added(page):
+    """After all files are stopped, the rest of a folder is added, and not hashed either."""
+    page.set_key("wrong")
+    drop_many(page, 20_000)
+    page.browser.click("#stop-all")
+    page.browser.wait("return document.getElementById('status').textContent === '20,000 files were added'", seconds=60)
+    check(page.browser.run("return document.getElementById('stop-all').hidden"), "files wait")
+    check(page.card("many/0")["message"] == "Stopped. There is no digest.", page.card("many/0"))
+    page.browser.click("#again")
+    page.browser.wait("return !document.getElementById('stop-all').hidden", seconds=60)
+    page.browser.click("#clear")
+
+
 def million_names(page):
     """A folder of 1,000,000 files is listed, stopped, restarted and hashed as far as the check waits."""
     page.set_key("wrong")
@@ -552,6 +565,7 @@ LIST_CHECKS = {
     "one file is removed": removed,
     "10,000 files and their checksum file": many_files,
     "the list is cleared while files are added": cleared_while_added,
+    "all is stopped while files are added": stopped_while_added,
     "1,000,000 names": million_names,
     "verifying a download": download,
     "a small screen": small_screen,
