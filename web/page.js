@@ -1,6 +1,6 @@
 // SPDX-License-Identifier: MIT
 /** The page: the list of hashed items, and the user's actions. worker.js does the hashing. */
-import { Card } from "./card.js";
+import { Card, STOPPED } from "./card.js";
 import { Checklist, compareWithField, isExpected, readChecklist } from "./checksums.js";
 import { filesOfDrop, filesOfInput } from "./gather.js";
 import { readKey } from "./key.js";
@@ -78,9 +78,9 @@ let jobs = 0;
 /** The expected digest that was found among the files. */
 let foundDigest = "";
 
-/** How often the list was cleared, and all files were stopped. */
+/** How often the list was cleared, and why the files that waited were last stopped: another object each time. */
 let clears = 0;
-let stops = 0;
+let lastStop = {};
 
 /** The callbacks of a card. */
 const list = {
@@ -190,10 +190,14 @@ function compare() {
 function stopSearch() {
   if (foundDigest === $("expected").value) return;
   foundDigest = $("expected").value;
+  stopWaiting("Not hashed, since the expected digest was found");
+}
+
+/** Stops the files that wait, and those that are still being added. */
+function stopWaiting(message) {
+  lastStop = { message };
   queue.clear();
-  for (const card of files.filter(({ state }) => state === "waiting")) {
-    card.end("stopped", "Not hashed, since the expected digest was found");
-  }
+  for (const card of files.filter(({ state }) => state === "waiting")) card.end("stopped", message);
 }
 
 let wasBusy = false;
@@ -235,15 +239,15 @@ function showChosenKind() {
 
 /**
  * Adds the files, checksum files as such, and shows the results. If the list is cleared meanwhile, no more are added, and
- * if all files are stopped, the others aren't hashed either.
+ * if those that wait are stopped, the others aren't hashed either.
  */
 async function add(found) {
-  const [clearsBefore, stopsBefore] = [clears, stops];
+  const [clearsBefore, stopBefore] = [clears, lastStop];
   const checks = await checklistsIn(found);
   for (const [i, { path, file, error }] of found.entries()) {
     if (clears !== clearsBefore) return;
     if (checks[i]) addChecklist(path, file, checks[i]);
-    else addFile(path, file, error, stops !== stopsBefore);
+    else addFile(path, file, error, lastStop === stopBefore ? undefined : lastStop.message);
     if (i % FILES_IN_A_TURN === FILES_IN_A_TURN - 1) await new Promise((resolve) => setTimeout(resolve));
   }
   if (found.length) announce(found.length === 1 ? `${found[0].path} was added` : `${counted(found.length, "file")} were added`);
@@ -273,12 +277,12 @@ async function checklistIn(file) {
   return readChecklist(file);
 }
 
-function addFile(path, file, error, isStopped) {
+function addFile(path, file, error, whyStopped) {
   const card = new Card(list, path, file ?? new Blob([]));
   files.push(card);
   rows.add(card);
   if (error) card.wait = () => card.end("failed", failureText(error));
-  if (isStopped && !error) card.stop();
+  if (whyStopped && !error) card.end("stopped", whyStopped);
   else card.wait();
 }
 
@@ -337,8 +341,7 @@ function hashAgain() {
 }
 
 function stopAll() {
-  stops += 1;
-  queue.clear();
+  stopWaiting(STOPPED);
   for (const card of files.filter((card) => card.isBusy())) card.stop();
 }
 
@@ -392,7 +395,7 @@ const ANSWERS = {
     if (!list.isCompact) announce(`${card.name}: done`);
   },
   stopped: (_, card) => {
-    card.end("stopped", "Stopped. There is no digest.");
+    card.end("stopped", STOPPED);
     announce(`${card.name}: stopped`);
   },
   failed: (answer, card) => {

@@ -380,6 +380,18 @@ def stopped_while_added(page):
     page.browser.click("#clear")
 
 
+def found_while_added(page):
+    """After a file with the expected digest is found, the rest of a folder is added, and not hashed."""
+    page.set_key("1234")
+    page.set_field("expected", SOME_BYTES["xxh64"])
+    drop_many(page, 20_000)
+    page.browser.wait("return document.getElementById('status').textContent === '20,000 files were added'", seconds=60)
+    page.browser.wait("return document.getElementById('stop-all').hidden", seconds=60)
+    hashed = int(page.text_of("#tally").split(" of ")[0].replace(",", ""))
+    check(hashed < 10_000, f"{hashed} were hashed")
+    page.browser.click("#clear")
+
+
 def million_names(page):
     """A folder of 1,000,000 files is listed, stopped, restarted and hashed as far as the check waits."""
     page.set_key("wrong")
@@ -566,6 +578,7 @@ LIST_CHECKS = {
     "10,000 files and their checksum file": many_files,
     "the list is cleared while files are added": cleared_while_added,
     "all is stopped while files are added": stopped_while_added,
+    "a digest is found while files are added": found_while_added,
     "1,000,000 names": million_names,
     "verifying a download": download,
     "a small screen": small_screen,
