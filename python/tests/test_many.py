@@ -243,6 +243,18 @@ class Many(unittest.TestCase):
                 ours.many(rows, name, into=into)
             self.assertEqual(bytes(into), before)
 
+    def test_a_stored_error_holds_no_rows(self):
+        """The buffer of the rows can be resized while the exception with its frames is there."""
+        letters = 'w' if sys.version_info >= (3, 13) else 'u'
+        errors = []
+        for rows, more in ((bytearray(8), {'width': 7}), (bytearray(8), {}), (array.array(letters, 'abc'), {})):
+            try:
+                ours.many(rows, **more)
+            except (TypeError, ValueError) as fault:
+                errors.append(fault)
+            rows.extend(rows)
+        self.assertEqual(len(errors), 3)
+
     def test_rows_of_text_in_memory(self):
         """UTF-32 is never meant as a row."""
         letters = 'w' if sys.version_info >= (3, 13) else 'u'
