@@ -663,6 +663,18 @@ def a_manifest_that_is_a_folder(fleet):
     check(not os.path.exists(fleet.manifest + '.parts'), 'a run has begun')
 
 
+# Prints the message on a file of this name, in hexadecimal.
+FAILS = 'import sys, fleet; fleet.Run(None, None).fail(bytes.fromhex(sys.argv[1]), "why")'
+
+
+def names_in_messages(fleet):
+    """A message is one line, in which a name has no control sequence."""
+    name = 'größe \\\n\r\x1b[2J\u202e'.encode() + b'\xff'
+    command = [sys.executable, '-B', '-X', 'utf8', '-c', FAILS, name.hex()]
+    done = subprocess.run(command, cwd=os.path.dirname(fleet.program), capture_output=True)
+    check(done.stderr.decode() == 'fleet: größe \\\\n\\r\\x1b[2J\\u202e\\xff: why\n', done.stderr)
+
+
 def help_without_dask(fleet):
     check('--indexes' in must([sys.executable, '-B', '-S', fleet.program, '--help']), 'no help')
 
@@ -739,6 +751,7 @@ def check_all(report, workdir, program):
             ('a second run', a_second_run),
             ('a folder of other files', a_folder_of_other_files),
             ('a manifest that is a folder', a_manifest_that_is_a_folder),
+            ('names in messages', names_in_messages),
             ('the help without Dask', help_without_dask),
             ('no worker is left', no_worker_is_left),
             ("a worker on Debian's library", other_library_is_refused),

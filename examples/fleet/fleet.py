@@ -114,8 +114,9 @@ class Run:
     def fail(self, name, why):
         self.failed += 1
         self.clear()
-        shown = name.decode(errors='backslashreplace').replace('\n', '\\n').replace('\r', '\\r')
-        print(f'fleet: {shown}: {why}', file=sys.stderr)
+        # A terminal would run the control sequences in a name.
+        shown = (it if it.isprintable() else ascii(it)[1:-1] for it in name.decode(errors='backslashreplace'))
+        print(f'fleet: {"".join(shown)}: {why}', file=sys.stderr)
 
     def tasks(self):
         """The tasks, in the order of the files' names, while the tree is walked."""
