@@ -3,6 +3,7 @@
 import { lineOf } from "./lines.js";
 import { NAMES, copy, copyOf, keyText, sizeText } from "./text.js";
 
+export const STOPPED = "Stopped. There is no digest.";
 const OF_ANOTHER_KEY = "Hashed with another seed or secret. Hash again to use this one.";
 
 /** Creates the element when it is first shown: of thousands of files most are not. */
@@ -98,7 +99,7 @@ export class Card {
 
   stop() {
     if (this.state === "running") this.list.stop(this);
-    else this.end("stopped", "Stopped. There is no digest.");
+    else this.end("stopped", STOPPED);
   }
 
   progress(done) {

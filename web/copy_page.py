@@ -27,13 +27,8 @@ def with_own_links(page):
     return page
 
 
-def main():
-    args = sys.argv[1:]
-    if len(args) != 1 or args[0].startswith("-"):
-        sys.exit("usage: web/folder FOLDER")
-    folder = args[0]
-    if os.path.exists(folder) and (not os.path.isdir(folder) or os.listdir(folder)):
-        fail(f"{folder} is there, and isn't an empty folder")
+def write_page(folder):
+    """Writes the page to the folder. Returns the number of its files."""
     os.makedirs(os.path.join(folder, "pages"), exist_ok=True)
     with open(os.path.join(WEB, "page_files.json"), encoding="utf-8") as file:
         names = json.load(file)
@@ -46,4 +41,18 @@ def main():
         page = with_own_links(file.read())
     with open(path, "w", encoding="utf-8") as file:
         file.write(page)
-    print(f"{folder}: {len(names)} files and {len(PAGES)} pages")
+    return len(names)
+
+
+def main():
+    args = sys.argv[1:]
+    if len(args) != 1 or args[0].startswith("-"):
+        sys.exit("usage: web/folder FOLDER")
+    folder = args[0]
+    try:
+        if os.path.exists(folder) and (not os.path.isdir(folder) or os.listdir(folder)):
+            fail(f"{folder} is there, and isn't an empty folder")
+        count = write_page(folder)
+    except OSError as error:
+        fail(f"{error.filename}: {error.strerror}")
+    print(f"{folder}: {count} files and {len(PAGES)} pages")

@@ -1,6 +1,6 @@
 // SPDX-License-Identifier: MIT
 /** The page: the list of hashed items, and the user's actions. worker.js does the hashing. */
-import { Card } from "./card.js";
+import { Card, STOPPED } from "./card.js";
 import { Checklist, compareWithField, isExpected, readChecklist } from "./checksums.js";
 import { filesOfDrop, filesOfInput } from "./gather.js";
 import { readKey } from "./key.js";
@@ -30,7 +30,10 @@ const NAMED_AS_LIST = /sums?\b|digest|check|manifest|\.(xxh\w*|md5|sha\w*|txt)$/
 /** This many files are added before the page is updated. */
 const FILES_IN_A_TURN = 200;
 
-/** This many files are sent to the worker at once, if they are small: it then waits less for the page. */
+/**
+ * This many files are sent to the worker at once, if they are small: it then waits less for the page. This many are also
+ * tested for being checksum files at once.
+ */
 const FILES_AT_ONCE = 16;
 const BYTES_AT_ONCE = 8 * 1024 * 1024;
 
@@ -74,6 +77,10 @@ let jobs = 0;
 
 /** The expected digest that was found among the files. */
 let foundDigest = "";
+
+/** How often the list was cleared, and why the files that waited were last stopped: another object each time. */
+let clears = 0;
+let lastStop = {};
 
 /** The callbacks of a card. */
 const list = {
@@ -183,10 +190,14 @@ function compare() {
 function stopSearch() {
   if (foundDigest === $("expected").value) return;
   foundDigest = $("expected").value;
+  stopWaiting("Not hashed, since the expected digest was found");
+}
+
+/** Stops the files that wait, and those that are still being added. */
+function stopWaiting(message) {
+  lastStop = { message };
   queue.clear();
-  for (const card of files.filter(({ state }) => state === "waiting")) {
-    card.end("stopped", "Not hashed, since the expected digest was found");
-  }
+  for (const card of files.filter(({ state }) => state === "waiting")) card.end("stopped", message);
 }
 
 let wasBusy = false;
@@ -226,19 +237,34 @@ function showChosenKind() {
 
 // ---- files to hash
 
-/** Adds the files, checksum files as such, and shows the results. */
+/**
+ * Adds the files, checksum files as such, and shows the results. If the list is cleared meanwhile, no more are added, and
+ * if those that wait are stopped, the others aren't hashed either.
+ */
 async function add(found) {
-  const looksInto = ({ path }) => found.length <= FILES_LOOKED_INTO || NAMED_AS_LIST.test(path.split("/").at(-1));
-  const checks = await Promise.all(found.map((it) => (looksInto(it) ? checklistIn(it.file) : null)));
+  const [clearsBefore, stopBefore] = [clears, lastStop];
+  const checks = await checklistsIn(found);
   for (const [i, { path, file, error }] of found.entries()) {
+    if (clears !== clearsBefore) return;
     if (checks[i]) addChecklist(path, file, checks[i]);
-    else addFile(path, file, error);
+    else addFile(path, file, error, lastStop === stopBefore ? undefined : lastStop.message);
     if (i % FILES_IN_A_TURN === FILES_IN_A_TURN - 1) await new Promise((resolve) => setTimeout(resolve));
   }
   if (found.length) announce(found.length === 1 ? `${found[0].path} was added` : `${counted(found.length, "file")} were added`);
   $("files-note").textContent = found.length ? "" : "It contains no file.";
   compare();
   if (found.length) showResults();
+}
+
+/** Returns the lines of each checksum file, and null for each other file. Few are in memory at the same time. */
+async function checklistsIn(found) {
+  const looksInto = ({ path }) => found.length <= FILES_LOOKED_INTO || NAMED_AS_LIST.test(path.split("/").at(-1));
+  const checks = [];
+  for (let at = 0; at < found.length; at += FILES_AT_ONCE) {
+    const some = found.slice(at, at + FILES_AT_ONCE);
+    checks.push(...await Promise.all(some.map((it) => (looksInto(it) ? checklistIn(it.file) : null))));
+  }
+  return checks;
 }
 
 async function checklistIn(file) {
@@ -251,12 +277,13 @@ async function checklistIn(file) {
   return readChecklist(file);
 }
 
-function addFile(path, file, error) {
+function addFile(path, file, error, whyStopped) {
   const card = new Card(list, path, file ?? new Blob([]));
   files.push(card);
   rows.add(card);
   if (error) card.wait = () => card.end("failed", failureText(error));
-  card.wait();
+  if (whyStopped && !error) card.end("stopped", whyStopped);
+  else card.wait();
 }
 
 function addChecklist(path, file, lines) {
@@ -314,11 +341,12 @@ function hashAgain() {
 }
 
 function stopAll() {
-  queue.clear();
+  stopWaiting(STOPPED);
   for (const card of files.filter((card) => card.isBusy())) card.stop();
 }
 
 function clear() {
+  clears += 1;
   queue.clear();
   for (const card of files.splice(0)) {
     if (card.state === "running") list.stop(card);
@@ -367,7 +395,7 @@ const ANSWERS = {
     if (!list.isCompact) announce(`${card.name}: done`);
   },
   stopped: (_, card) => {
-    card.end("stopped", "Stopped. There is no digest.");
+    card.end("stopped", STOPPED);
     announce(`${card.name}: stopped`);
   },
   failed: (answer, card) => {
@@ -433,16 +461,23 @@ for (const field of [$("text"), $("seed"), $("secret"), ...document.querySelecto
 }
 takeKey(); // a browser may restore the fields
 
+/** True if text is dragged over a field, which the browser writes there. */
+function isForField({ target, dataTransfer }) {
+  return target.matches?.("textarea, input:not([type])") && !dataTransfer.types.includes("Files");
+}
+
 addEventListener("dragover", (event) => {
-  event.preventDefault();
-  document.body.classList.add("dropping");
+  const isForPage = !isForField(event);
+  if (isForPage) event.preventDefault();
+  document.body.classList.toggle("dropping", isForPage);
 });
 addEventListener("dragleave", (event) => {
   if (!event.relatedTarget) document.body.classList.remove("dropping");
 });
 addEventListener("drop", async (event) => {
-  event.preventDefault();
   document.body.classList.remove("dropping");
+  if (isForField(event)) return;
+  event.preventDefault();
   if (!$("files").disabled) add(await filesOfDrop(event.dataTransfer));
 });
 

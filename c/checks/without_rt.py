@@ -161,6 +161,12 @@ def is_from_source(copy, word, *args):
     return first
 
 
+def is_no_folder(copy, script):
+    """An option that a script doesn't have is refused, and no folder of that name is written."""
+    done = ran([os.path.join(copy, 'c', script), '--help'])
+    check(done.returncode == 2 and done.stdout.startswith(f'usage: c/{script} '), last_line(done.stdout))
+
+
 def check_refusals(report, copy, workdir):
     for machine in ('riscv64-linux-gnu', 'aarch64-linux-android', 'x86_64-linux-gnux32', 'arm64-apple-darwin22'):
         message = f'which is not proved: no assembly source for {machine}, only for Linux on'
@@ -182,6 +188,8 @@ def check_refusals(report, copy, workdir):
             f'DESTDIR={workdir}/nowhere',
         )
     report.attempt('uninstall of another library', other_library_stays, copy, workdir)
+    for script in ('install', 'package'):
+        report.attempt(f'c/{script} --help', is_no_folder, copy, script)
     report.attempt(
         'make check without python3',
         lambda: is_refused(

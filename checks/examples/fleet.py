@@ -13,8 +13,8 @@
 - --anew, over a file that was changed through a shared mapping and kept its time;
 - with a file that vanishes, one that can't be read, one that grows while it is read, and a directory that can't be
   read;
-- with no worker left, no scheduler, a worker on Debian's library, and a second concurrent run, each of which must be
-  reported;
+- with no worker left, no scheduler, a worker on Debian's library, a second concurrent run, a folder of other files
+  under the name of the run's, and a manifest that is a folder, each of which must be reported;
 - the driver's memory over 20,000 and over 200,000 files.
 
 Scheduler and workers are processes on loopback, of the user nobody if root runs this, with all their files in a
@@ -540,6 +540,26 @@ def indexes_are_on_disk(fleet):
     check(len(written) == 2, 'an index is written in another way')
 
 
+# Prints if parts.py has closed its lock when it removes the folder with it.
+CLOSED_AT_THE_END = '''
+import os, sys
+import parts
+run, rmdir = parts.Parts(sys.argv[1], "/tree", None), os.rmdir
+os.rmdir = lambda path, **more: print(run.lock.closed) or rmdir(path, **more)
+run.join()
+'''
+
+
+def folder_is_closed(fleet):
+    """No file of the folder of parts is open when it is removed: on NFS the folder would then not be empty."""
+    fleet.forget()
+    folder = os.path.dirname(fleet.program)
+    found = must([sys.executable, '-B', '-c', CLOSED_AT_THE_END, fleet.manifest], cwd=folder)
+    is_left = os.path.exists(fleet.manifest + '.parts')
+    fleet.forget()
+    check(found == 'True\n' and not is_left, f'closed: {found}')
+
+
 def through_a_mapping(fleet):
     """A mapped page stays writable: later writes to it don't change the file's time. --since keeps the old digest,
     as documented on the page, and --anew finds the bytes."""
@@ -619,6 +639,46 @@ def a_second_run(fleet):
     fleet.has_all()
 
 
+def a_folder_of_other_files(fleet):
+    """A folder under the name of the parts that has other files is refused, and left unchanged."""
+    fleet.forget()
+    folder = fleet.manifest + '.parts'
+    os.mkdir(folder)
+    os.chmod(folder, 0o777)
+    write(os.path.join(folder, 'notes'), b'of a user')
+    _, err = fleet.end(fleet.start(goes_on=True), 1)
+    found = os.listdir(folder)
+    fleet.forget()
+    check(found == ['notes'], f'the folder has {found}')
+    check(err == [f"fleet: {folder} has 'notes', which no run wrote: rename the folder, or the manifest"], err)
+
+
+def a_manifest_that_is_a_folder(fleet):
+    """It is refused before a file is read."""
+    fleet.forget()
+    os.mkdir(fleet.manifest)
+    out, err = fleet.end(fleet.start(goes_on=True), 2)
+    os.rmdir(fleet.manifest)
+    check(not out and err[-1] == f'fleet.py: error: {fleet.manifest} is a folder', err)
+    check(not os.path.exists(fleet.manifest + '.parts'), 'a run has begun')
+
+
+# Prints the message on a file of this name, in hexadecimal.
+FAILS = 'import sys, fleet; fleet.Run(None, None).fail(bytes.fromhex(sys.argv[1]), "why")'
+
+
+def names_in_messages(fleet):
+    """A message is one line, in which a name has no control sequence."""
+    name = 'größe \\\n\r\x1b[2J\u202e'.encode() + b'\xff'
+    command = [sys.executable, '-B', '-X', 'utf8', '-c', FAILS, name.hex()]
+    done = subprocess.run(command, cwd=os.path.dirname(fleet.program), capture_output=True)
+    check(done.stderr.decode() == 'fleet: größe \\\\n\\r\\x1b[2J\\u202e\\xff: why\n', done.stderr)
+
+
+def help_without_dask(fleet):
+    check('--indexes' in must([sys.executable, '-B', '-S', fleet.program, '--help']), 'no help')
+
+
 def memory(fleet):
     """The maximum memory of the driver, over 20,000 and 200,000 files."""
     fleet.with_workers(2)
@@ -683,11 +743,16 @@ def check_all(report, workdir, program):
             ('indexes of changed files and other blocks', indexes_are_of_their_files),
             ('indexes that are cut', indexes_that_are_cut),
             ('indexes are on disk', indexes_are_on_disk),
+            ('the folder of parts is closed', folder_is_closed),
             ('a file changed through a mapping', through_a_mapping),
             ('a name too long for an index', long_names),
             ('files that fail', files_fail),
             ('a file grows', a_file_grows),
             ('a second run', a_second_run),
+            ('a folder of other files', a_folder_of_other_files),
+            ('a manifest that is a folder', a_manifest_that_is_a_folder),
+            ('names in messages', names_in_messages),
+            ('the help without Dask', help_without_dask),
             ('no worker is left', no_worker_is_left),
             ("a worker on Debian's library", other_library_is_refused),
             ('no scheduler', no_scheduler),

@@ -114,8 +114,9 @@ class Run:
     def fail(self, name, why):
         self.failed += 1
         self.clear()
-        shown = name.decode(errors='backslashreplace').replace('\n', '\\n').replace('\r', '\\r')
-        print(f'fleet: {shown}: {why}', file=sys.stderr)
+        # A terminal would run the control sequences in a name.
+        shown = (it if it.isprintable() else ascii(it)[1:-1] for it in name.decode(errors='backslashreplace'))
+        print(f'fleet: {"".join(shown)}: {why}', file=sys.stderr)
 
     def tasks(self):
         """The tasks, in the order of the files' names, while the tree is walked."""
@@ -291,6 +292,8 @@ def read_args():
             args.error(f'{name} lies in the tree')
     if not os.path.isdir(chosen.tree):
         args.error(f'{chosen.tree} is no folder')
+    if os.path.isdir(chosen.manifest):
+        args.error(f'{chosen.manifest} is a folder')
     if chosen.since and not os.path.isfile(chosen.since + '.files'):
         args.error(f'there is no {chosen.since}.files')
     if chosen.block < 1:
@@ -299,9 +302,9 @@ def read_args():
 
 
 def main():
+    args = read_args()
     from distributed import Client
 
-    args = read_args()
     # Dask's messages about lost workers are no errors of this run.
     logging.disable(logging.CRITICAL)
     try:

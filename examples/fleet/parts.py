@@ -7,12 +7,15 @@
     0, 1 ..  records of this run, a file for each task, in the order of the names
 
 Each file except `kept` is written under another name and renamed, so it is complete or missing. A run that finds the
-folder continues from it, and the folder is removed when the manifest is there."""
+folder continues from it, and the folder is removed when the manifest is there. A folder with any other file is refused:
+it isn't a run's."""
 import fcntl
 import os
-import shutil
+import re
 
 from files import newest, records_of
+
+NAMES = re.compile(r'lock|kept|(tree|before|[0-9]+)(\.part)?')
 
 
 class Parts:
@@ -20,8 +23,8 @@ class Parts:
         """Begins a run, or continues one. `since` is the manifest of an earlier run, whose records are also used. If
         it `is_fresh`, no earlier record is used."""
         self.manifest, self.folder = manifest, manifest + '.parts'
-        self.is_resumed = os.path.isdir(self.folder)
         os.makedirs(self.folder, exist_ok=True)
+        self.refuse_others()
         self.lock = open(self.path('lock'), 'wb')
         fcntl.flock(self.lock, fcntl.LOCK_EX | fcntl.LOCK_NB)
         self.hold_to(tree)
@@ -34,6 +37,12 @@ class Parts:
 
     def path(self, name):
         return os.path.join(self.folder, str(name))
+
+    def refuse_others(self):
+        """Refuses a folder with a file that no run writes."""
+        for name in os.listdir(self.folder):
+            if not NAMES.fullmatch(name):
+                raise ValueError(f'{self.folder} has {name!r}, which no run wrote: rename the folder, or the manifest')
 
     def hold_to(self, tree):
         """Refuses to continue a run of another tree."""
@@ -77,7 +86,14 @@ class Parts:
             to_disk(records)
         os.replace(files + '.part', files)
         os.replace(self.manifest + '.part', self.manifest)
-        shutil.rmtree(self.folder)
+        self.remove()
+
+    def remove(self):
+        """Removes the folder. NFS keeps a removed file there under another name until it is closed."""
+        for name in os.listdir(self.folder):
+            os.remove(self.path(name))
+        self.lock.close()
+        os.rmdir(self.folder)
 
 
 def write(path, lines, is_lasting=False):

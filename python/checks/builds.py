@@ -105,6 +105,14 @@ def refusals(built):
         check('Traceback' not in done.stdout, f'{cc}: a traceback')
 
 
+def python_in_the_callers_folder(built):
+    """A relative path of Python is one from the caller's folder."""
+    clone, folder = copied(os.path.join(built.workdir, 'relative')), os.path.join(built.workdir, 'caller')
+    write(os.path.join(folder, 'bin', 'python'), '#!/bin/sh\necho "$0" runs\n', 0o755)
+    done = run([os.path.join(clone, 'build'), 'bin/python'], folder)
+    check(done.stdout == f'{folder}/bin/python runs\n' * 2, done.stdout[-200:])
+
+
 def names_are_hidden(built):
     """The file exports only its init function, and imports no name of libxxhash."""
     shown = must(['/usr/bin/nm', '-D', '--defined-only', built.library]).split()[2::3]
@@ -186,6 +194,7 @@ def check_all(report: Report, built: Built) -> None:
     report.attempt('the lines of Python in the pages', pages_agree, built)
     report.attempt('the wheel where rt and compilers are hidden', wheel_installs, built)
     report.attempt('no compiler, and one for another machine', refusals, built)
+    report.attempt('a relative path of Python', python_in_the_callers_folder, built)
     report.attempt('names of the extension', names_are_hidden, built)
     report.attempt(
         'what the assembler makes of the text, beside what was proved', text_is_proved, built.workdir, 'x86_64'

@@ -69,6 +69,19 @@ class Many(unittest.TestCase):
         self.assertEqual(ours.many((ctypes.c_char * 0 * 4)()), [ours.xxh3_64_digest(b'')] * 4)
         self.assertEqual(ours.many([], into=bytearray()), bytearray())
 
+    def test_widths_that_are_no_int(self):
+        """Integers of other types are widths. They compute nothing, since their type may be too narrow."""
+
+        class Index:
+            def __index__(self):
+                return 16
+
+        data = bytes_of(1600)
+        self.assertEqual(ours.many(data, width=Index()), ours.many(data, width=16))
+        for wrong in (16.0, '16', b'16'):
+            with self.assertRaisesRegex(TypeError, 'cannot be interpreted as an integer'):
+                ours.many(data, width=wrong)
+
     def test_numpy(self):
         try:
             import numpy
@@ -76,6 +89,7 @@ class Many(unittest.TestCase):
             self.skipTest('no numpy')
         table = numpy.arange(600, dtype='u2').reshape(100, 6)
         self.assertEqual(ours.many(table, 'xxh64'), [ours.xxh64_digest(row.tobytes()) for row in table])
+        self.assertEqual(ours.many(table, width=numpy.uint8(12)), ours.many(table))
         into = numpy.empty(100, '>u8')
         self.assertIs(ours.many(table, 'xxh64', into=into), into)
         self.assertEqual(into.tolist(), [ours.xxh64_intdigest(row.tobytes()) for row in table])
@@ -228,6 +242,18 @@ class Many(unittest.TestCase):
             with self.assertRaisesRegex(ValueError, 'into has integers of'):
                 ours.many(rows, name, into=into)
             self.assertEqual(bytes(into), before)
+
+    def test_a_stored_error_holds_no_rows(self):
+        """The buffer of the rows can be resized while the exception with its frames is there."""
+        letters = 'w' if sys.version_info >= (3, 13) else 'u'
+        errors = []
+        for rows, more in ((bytearray(8), {'width': 7}), (bytearray(8), {}), (array.array(letters, 'abc'), {})):
+            try:
+                ours.many(rows, **more)
+            except (TypeError, ValueError) as fault:
+                errors.append(fault)
+            rows.extend(rows)
+        self.assertEqual(len(errors), 3)
 
     def test_rows_of_text_in_memory(self):
         """UTF-32 is never meant as a row."""

@@ -83,6 +83,8 @@ def main():
     chosen = parser.parse_args()
     folder = os.path.abspath(chosen.folder)
     written.earlier_files(folder)
+    if chosen.gate and not os.path.isfile(chosen.gate):
+        sys.exit(f'release/make: there is no log {chosen.gate}')
     if chosen.without_rt:
         check_packages(PACKAGES_WITHOUT_RT)
     elif not shutil.which('rt'):

@@ -177,6 +177,12 @@ def foreign_folders_stay(folder):
     return f'{count} folders stay, a release gives way'
 
 
+def missing_log_is_refused():
+    """Before the proofs, which take an hour."""
+    done = ran([MAKE, '--gate', 'none'], timeout=60)
+    check(done.returncode == 1 and done.stdout == 'release/make: there is no log none\n', last_line(done.stdout))
+
+
 def provenances(workdir, path):
     """The files of that name in an archive."""
     if path.endswith('.whl'):
@@ -242,3 +248,4 @@ def check_all(report: Report, workdir: str, folder: str) -> None:
     report.attempt('a changed byte is detected', change_is_noticed, workdir, folder)
     report.attempt('PROVENANCE in each archive', has_provenance, workdir, folder)
     report.attempt('release/make in a folder with other files', foreign_folders_stay, folder)
+    report.attempt('a log that is missing', missing_log_is_refused)

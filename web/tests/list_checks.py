@@ -251,6 +251,26 @@ def folder_dropped(page):
     return "120 files"
 
 
+def text_dropped(page):
+    """Text that is dropped on a field is written there, and elsewhere the page stays."""
+    page.choose(page.file("some.txt", b"some bytes"))
+    digest = page.digests("some.txt")["xxh64"]
+    data = {"items": [{"mimeType": "text/plain", "data": digest}], "dragOperationsMask": 1}
+    for selector in ("h1", "#expected"):
+        x, y = page.browser.run(
+            """const it = document.querySelector(arguments[0]);
+            it.scrollIntoView();
+            const { left, top } = it.getBoundingClientRect();
+            return [left + 5, top + 5];""",
+            selector,
+        )
+        for event in ("dragEnter", "dragOver", "drop"):
+            page.browser.devtools("Input.dispatchDragEvent", type=event, x=x, y=y, data=data)
+    page.browser.wait("return document.getElementById('verdict').textContent.startsWith('Same')", seconds=10)
+    check(page.browser.run("return document.getElementById('expected').value") == digest, "another text is there")
+    check(not page.browser.run("return document.body.classList.contains('dropping')"), "it still expects a drop")
+
+
 # The drop event for the page: entries as in a browser, created by a script.
 DROP = """const event = new Event("drop", { bubbles: true, cancelable: true });
 const fileEntry = (path, file) => ({ isFile: true, isDirectory: false, fullPath: path, file });
@@ -302,21 +322,81 @@ def dragged(page):
         check(page.browser.run(shown) == is_shown, f"after {event}")
 
 
+def looked_into(page):
+    """Files that may be checksum files are read a few at a time, however many there are, and one is found among them."""
+    page.browser.run(
+        """const read = Blob.prototype.arrayBuffer;
+        window.most = window.reading = 0;
+        Blob.prototype.arrayBuffer = async function () {
+            window.most = Math.max(window.most, window.reading += 1);
+            try { return await read.call(this); } finally { window.reading -= 1; }
+        };"""
+    )
+    files = {f"{i:03}.txt": b"# no list, but it begins as one\n" * 1000 for i in range(300)}
+    folder = folder_of(page, "texts", files)
+    folder_of(page, "texts", {"sums.txt": line_of("007.txt", "xxh64", folder=folder).encode()})
+    page.browser.type("#folder", folder)
+    checked(page, [["007.txt", "same"]], "1 line: 1 same.")
+    most = page.browser.run("return window.most")
+    check(0 < most <= 16, f"{most} are read at once")
+
+
 MILLION = 1_000_000
 
 
-def million_names(page):
-    """A folder of 1,000,000 files is listed, stopped, restarted and hashed as far as the check waits."""
-    page.set_key("wrong")
-    began = time.monotonic()
+def drop_many(page, count):
+    """Drops a folder of that many files."""
     page.browser.run(
         DROP
         % """[item({ isDirectory: true, fullPath: "/many", createReader: () => {
         const batches = [Array.from({ length: arguments[0] }, (_, i) => fileEntry(`/many/${i}`, (give) => give(good))), []];
         return { readEntries: (give) => give(batches.shift()) };
     } })]""",
-        MILLION,
+        count,
     )
+
+
+def cleared_while_added(page):
+    """A folder that is still being added when the list is cleared doesn't come back."""
+    page.set_key("wrong")
+    drop_many(page, 50_000)
+    page.browser.click("#clear")
+    time.sleep(1)
+    count = page.browser.run("return document.querySelectorAll('.card').length")
+    check(count == 0, f"{count} cards are there")
+    check("50,000" not in page.text_of("#status"), page.text_of("#status"))
+
+
+def stopped_while_added(page):
+    """After all files are stopped, the rest of a folder is added, and not hashed either."""
+    page.set_key("wrong")
+    drop_many(page, 20_000)
+    page.browser.click("#stop-all")
+    page.browser.wait("return document.getElementById('status').textContent === '20,000 files were added'", seconds=60)
+    check(page.browser.run("return document.getElementById('stop-all').hidden"), "files wait")
+    check(page.card("many/0")["message"] == "Stopped. There is no digest.", page.card("many/0"))
+    page.browser.click("#again")
+    page.browser.wait("return !document.getElementById('stop-all').hidden", seconds=60)
+    page.browser.click("#clear")
+
+
+def found_while_added(page):
+    """After a file with the expected digest is found, the rest of a folder is added, and not hashed."""
+    page.set_key("1234")
+    page.set_field("expected", SOME_BYTES["xxh64"])
+    drop_many(page, 20_000)
+    page.browser.wait("return document.getElementById('status').textContent === '20,000 files were added'", seconds=60)
+    page.browser.wait("return document.getElementById('stop-all').hidden", seconds=60)
+    hashed = int(page.text_of("#tally").split(" of ")[0].replace(",", ""))
+    check(hashed < 10_000, f"{hashed} were hashed")
+    page.browser.click("#clear")
+
+
+def million_names(page):
+    """A folder of 1,000,000 files is listed, stopped, restarted and hashed as far as the check waits."""
+    page.set_key("wrong")
+    began = time.monotonic()
+    drop_many(page, MILLION)
     page.browser.wait(
         "return document.getElementById('status').textContent === arguments[0]",
         f"{MILLION:,} files were added",
@@ -490,10 +570,15 @@ LIST_CHECKS = {
     "long lines of a checksum file": long_lines,
     "improper lines of a checksum file": improper_lines,
     "a folder that is chosen": folder_chosen,
+    "files that begin as checksum files do are read a few at a time": looked_into,
     "a folder that is dropped": folder_dropped,
+    "a text that is dropped on a field": text_dropped,
     "lines saved and copied, for xxhsum -c": lines_saved,
     "one file is removed": removed,
     "10,000 files and their checksum file": many_files,
+    "the list is cleared while files are added": cleared_while_added,
+    "all is stopped while files are added": stopped_while_added,
+    "a digest is found while files are added": found_while_added,
     "1,000,000 names": million_names,
     "verifying a download": download,
     "a small screen": small_screen,

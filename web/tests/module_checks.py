@@ -196,9 +196,21 @@ def row_of_page(start):
     return re.search(rf"^\| {re.escape(start)} \| (.*) \|$", text_of("web/README.md"), re.M)[1]
 
 
+def install_by(commands, workdir, node):
+    """Runs commands of the page in one shell, in a folder next to a clone, and uses the package that they install."""
+    user = os.path.join(workdir, "user")
+    write(user, "package.json", '{ "private": true }')
+    offline = "export npm_config_offline=true npm_config_audit=false npm_config_fund=false"
+    must(["sh", "-e", "-c", "\n".join([offline, *commands])], user)
+    for name in ("twox_hash", "twox_hash/inline"):
+        result = must(
+            [node, "--input-type=module", "-e", f'import {{ load, toHex, xxh64 }} from "{name}"; {SAMPLE}'], user
+        )
+        check(result == OF_SAMPLE, result)
+
+
 def installed_as_printed(folder, node):
-    """Each way to install on the page, its commands in one shell, in a folder next to a clone, which stays
-    unchanged."""
+    """Each way to install on the page leaves the clone unchanged."""
     ways = [
         re.findall("`([^`]+)`", way) for way in row_of_page("the package, which has no dependencies").split("; or ")
     ]
@@ -206,27 +218,26 @@ def installed_as_printed(folder, node):
     for way in ways:
         with tempfile.TemporaryDirectory(dir=folder) as workdir:
             copy_of_clone(os.path.join(workdir, "twox_hash"))
-            web, user = os.path.join(workdir, "twox_hash", "web"), os.path.join(workdir, "user")
+            web = os.path.join(workdir, "twox_hash", "web")
             before = files_of(web)
-            os.makedirs(user)
-            write(user, "package.json", '{ "private": true }')
-            must(
-                [
-                    "sh",
-                    "-e",
-                    "-c",
-                    "export npm_config_offline=true npm_config_audit=false npm_config_fund=false\n" + "\n".join(way),
-                ],
-                user,
-            )
-            for name in ("twox_hash", "twox_hash/inline"):
-                result = must(
-                    [node, "--input-type=module", "-e", f'import {{ load, toHex, xxh64 }} from "{name}"; {SAMPLE}'],
-                    user,
-                )
-                check(result == OF_SAMPLE, result)
+            install_by(way, workdir, node)
             check(files_of(web) == before, f"{way} changes the clone")
     return "; ".join(" && ".join(way) for way in ways)
+
+
+def installed_from_read_only(folder, node):
+    """The way on the page for a clone whose files and folders nobody may write. npm writes to the copy, so its user must
+    be able to: root may in any case."""
+    commands = re.findall("`([^`]+)`", row_of_page("the package, from a read-only checkout"))
+    with tempfile.TemporaryDirectory(dir=folder) as workdir:
+        copy_of_clone(os.path.join(workdir, "twox_hash"))
+        must(["chmod", "-R", "a-w", "twox_hash"], workdir)
+        try:
+            install_by([it.replace("/tmp/", f"{workdir}/") for it in commands], workdir, node)
+        finally:
+            must(["chmod", "-R", "u+w", "twox_hash"], workdir)
+        check(os.stat(os.path.join(workdir, "twox_hash_web")).st_mode & 0o200, "the copy is read-only too")
+    return " && ".join(commands)
 
 
 def without_a_package(node):
@@ -468,6 +479,7 @@ def check_package(checks: Report, folder: str, nodes: Iterable[str]) -> None:
         checks.attempt(f"the files alone in {node}, as the page says", without_a_package, node)
         checks.attempt(f"bundles for {node}, with the modules beside them", bundles_for_node, folder, node)
     checks.attempt("npm install, as the page says", installed_as_printed, folder, nodes[0])
+    checks.attempt("npm install from a read-only clone", installed_from_read_only, folder, nodes[0])
     checks.attempt("the examples of web/README.md", page_example, folder, nodes[0])
     checks.attempt("the package's types, by tsc --strict", types, folder)
 

@@ -355,8 +355,12 @@ def one_folder(page):
         folder = os.path.join(workdir, "some", "where")
         ran = subprocess.run([os.path.join(WEB, "folder"), folder], capture_output=True, text=True)
         check(ran.returncode == 0, ran.stderr)
-        again = subprocess.run([os.path.join(WEB, "folder"), folder], capture_output=True, text=True)
-        check(again.returncode == 1 and "isn't an empty folder" in again.stderr, again.stderr)
+        for wrong, why in (
+            (folder, f"{folder} is there, and isn't an empty folder"),
+            (os.path.join(folder, "page.js", "below"), f"{folder}/page.js/below: Not a directory"),
+        ):
+            again = subprocess.run([os.path.join(WEB, "folder"), wrong], capture_output=True, text=True)
+            check(again.returncode == 1 and again.stderr == f"web/folder: {why}\n", again.stderr)
         with http.server.ThreadingHTTPServer(("127.0.0.1", 0), functools.partial(Quiet, directory=workdir)) as serving:
             threading.Thread(target=serving.serve_forever, daemon=True).start()
             there = Page(page.browser, f"http://127.0.0.1:{serving.server_address[1]}/some/where/", page.workdir)

@@ -1,8 +1,9 @@
 """Digests of many inputs in one call."""
+import operator
 import re
 import sys
 from collections.abc import Iterable, Sized
-from typing import Any, Optional, TypeVar, Union, overload
+from typing import Any, Optional, SupportsIndex, TypeVar, Union, overload
 
 from ._types import HasherType, begun
 
@@ -21,7 +22,7 @@ def many(
     rows: Iterable[Any],
     algorithm: Union[str, HasherType] = ...,
     *,
-    width: Optional[int] = ...,
+    width: Optional[SupportsIndex] = ...,
     into: None = ...,
     **key: Any,
 ) -> list[bytes]:
@@ -30,7 +31,12 @@ def many(
 
 @overload
 def many(
-    rows: Iterable[Any], algorithm: Union[str, HasherType] = ..., *, width: Optional[int] = ..., into: Into, **key: Any
+    rows: Iterable[Any],
+    algorithm: Union[str, HasherType] = ...,
+    *,
+    width: Optional[SupportsIndex] = ...,
+    into: Into,
+    **key: Any,
 ) -> Into:
     ...
 
@@ -39,7 +45,7 @@ def many(
     rows: Iterable[Any],
     algorithm: Union[str, HasherType] = 'xxh3_64',
     *,
-    width: Optional[int] = None,
+    width: Optional[SupportsIndex] = None,
     into: Any = None,
     **key: Any,
 ) -> Any:
@@ -67,9 +73,8 @@ def many(
             raise TypeError(f'width is only for a buffer, not {type(rows).__name__!r}')
         digests = hasher._many(tuple(rows), into, numbers)
     else:
-        if not view.c_contiguous:
-            raise BufferError('the rows are not adjacent: the buffer is not C-contiguous')
-        digests = hasher._many_of_width(view, _count(view, width), into, numbers)
+        with view:  # a traceback that is kept would keep the buffer
+            digests = hasher._many_of_width(view, _count(view, width), into, numbers)
     return digests if into is None else into
 
 
@@ -94,9 +99,12 @@ def _view_of(rows: Any) -> Optional[memoryview]:
         view = memoryview(rows)
     except TypeError:
         return None
+    return None if view.format == 'O' and view.ndim == 1 else view
+
+
+def _test_rows(view: memoryview) -> None:
+    """Refuses a buffer of anything but bytes, or with gaps."""
     items = FIELD.sub(' ', view.format)
-    if items == 'O' and view.ndim == 1:
-        return None
     if 'O' in items:
         raise TypeError(f'the rows must be bytes, not objects (format {view.format!r})')
     if POINTER.search(items):
@@ -105,16 +113,19 @@ def _view_of(rows: Any) -> Optional[memoryview]:
         raise TypeError(
             f'the rows must be bytes, not UTF-32 text (format {view.format!r}): ' 'use rows.tolist() for str'
         )
-    return view
+    if not view.c_contiguous:
+        raise BufferError('the rows are not adjacent: the buffer is not C-contiguous')
 
 
-def _count(view: memoryview, width: Optional[int]) -> int:
+def _count(view: memoryview, width: Optional[SupportsIndex]) -> int:
     """Returns the number of rows of a buffer."""
+    _test_rows(view)
     if width is None:
         if view.ndim == 0 or view.ndim == 1 and view.itemsize == 1:
             raise ValueError('the bytes have no rows: width must be the length of a row')
         assert view.shape
         return view.shape[0]
+    width = operator.index(width)  # an integer of numpy may overflow
     if width <= 0 or view.nbytes % width:
         raise ValueError(f'{view.nbytes} bytes are not rows of {width} bytes')
     return view.nbytes // width
